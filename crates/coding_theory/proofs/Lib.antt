@@ -1,0 +1,17 @@
+pub mod Linear
+pub mod Tests
+pub mod Product
+pub mod Operations
+pub mod Fields
+pub mod Tables
+pub mod Shift
+pub mod Algebra
+pub mod Vandermonde
+pub mod Places
+pub mod Values
+pub mod Homomorphism
+pub mod Elements
+pub mod Distance
+pub mod Register
+pub mod Differences
+pub mod CodeWords

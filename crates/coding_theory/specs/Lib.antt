@@ -1,0 +1,6 @@
+pub mod Field
+pub mod Galois
+pub mod Algebra
+pub mod Words
+pub mod Code
+pub mod Register
