@@ -9,7 +9,7 @@ use Rattle.coding_theory.specs.Field.{Arithmetic, Lawful}
 use Rattle.coding_theory.specs.Algebra.{Ops, Laws, plain}
 use Rattle.coding_theory.specs.Words.{All, upto, power, sum, horner, differ}
 use Rattle.coding_theory.specs.Code.{CodeWord, ValueIsSum, LightIsZero, UniqueChecks}
-use Rattle.coding_theory.specs.Register.{mixed, by-root, generator, moved, fed, divided, checks}
+use Rattle.coding_theory.specs.Register.{mixed, extended, generator, moved, fed, divided, checks}
 use Rattle.coding_theory.proofs.Algebra.{power-not-o}
 use Rattle.coding_theory.proofs.Values.{horner-value}
 use Rattle.coding_theory.proofs.Places.{at, all-from}
@@ -39,9 +39,9 @@ module _ {A B : Type 0} (J : Ops A) (K : Ops B) (h : A → B) (H : Hom J K h) wh
   mixed-hom a prev [] = refl
   mixed-hom a prev (g ∷ gs) = ap₂ _∷_ (H .keeps-add _ _ ∙ ap (K .add (h g)) (H .keeps-mul a prev)) (mixed-hom a g gs)
 
-  by-root-hom : (a : A) (gs : List A) → map h (by-root J a gs) ≡ by-root K (h a) (map h gs)
-  by-root-hom a [] = refl
-  by-root-hom a (g ∷ gs) = ap (_∷_ (h g)) (mixed-hom a g gs)
+  extended-hom : (a : A) (gs : List A) → map h (extended J a gs) ≡ extended K (h a) (map h gs)
+  extended-hom a [] = refl
+  extended-hom a (g ∷ gs) = ap (_∷_ (h g)) (mixed-hom a g gs)
 
   zeros-hom : (d : ℕ) → map h (replicate d (J .o)) ≡ replicate d (K .o)
   zeros-hom zero = refl
@@ -49,7 +49,7 @@ module _ {A B : Type 0} (J : Ops A) (K : Ops B) (h : A → B) (H : Hom J K h) wh
 
   generator-hom : (root : ℕ → A) (d m : ℕ) → map h (generator J root d m) ≡ generator K (λ k. h (root k)) d m
   generator-hom root d zero = ap₂ _∷_ (H .keeps-i) (zeros-hom d)
-  generator-hom root d (suc m) = by-root-hom (root m) (generator J root d m) ∙ ap (by-root K (h (root m))) (generator-hom root d m)
+  generator-hom root d (suc m) = extended-hom (root m) (generator J root d m) ∙ ap (extended K (h (root m))) (generator-hom root d m)
 
   moved-hom : (f : A) (rs ts : List A) → map h (moved J f rs ts) ≡ moved K (h f) (map h rs) (map h ts)
   moved-hom f [] [] = refl

@@ -13,5 +13,6 @@ pub mod Homomorphism
 pub mod Elements
 pub mod Distance
 pub mod Register
+pub mod Fill
 pub mod Differences
 pub mod CodeWords

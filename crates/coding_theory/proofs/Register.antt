@@ -7,7 +7,7 @@ use native.Mathlib.Decide.{decLe, ℕ-discrete}
 use lib.ListN.{length, getD, replicate, drop, length-drop, length-replicate, List·getD-eq-default}
 use Rattle.coding_theory.specs.Algebra.{Ops, Laws}
 use Rattle.coding_theory.specs.Words.{power, horner}
-use Rattle.coding_theory.specs.Register.{mixed, by-root, generator, moved, fed, divided, checks}
+use Rattle.coding_theory.specs.Register.{mixed, extended, generator, moved, fed, divided, checks}
 use Rattle.coding_theory.proofs.Algebra.{ring, add-o, add-comm, o-mul, mul-o, mul-i, mul-comm, add-self, equal-from-add, zero-from-mul}
 
 -- lengths are kept
@@ -16,13 +16,13 @@ module _ {F : Type 0} (K : Ops F) where
   length-mixed a prev [] = refl
   length-mixed a prev (g ∷ gs) = ap suc (length-mixed a g gs)
 
-  by-root-length : (a : F) (gs : List F) → length (by-root K a gs) ≡ length gs
-  by-root-length a [] = refl
-  by-root-length a (g ∷ gs) = ap suc (length-mixed a g gs)
+  pub length-extended : (a : F) (gs : List F) → length (extended K a gs) ≡ length gs
+  length-extended a [] = refl
+  length-extended a (g ∷ gs) = ap suc (length-mixed a g gs)
 
   pub length-generator : (root : ℕ → F) (d m : ℕ) → length (generator K root d m) ≡ suc d
   length-generator root d zero = ap suc (length-replicate d (K .o))
-  length-generator root d (suc m) = by-root-length (root m) (generator K root d m) ∙ length-generator root d m
+  length-generator root d (suc m) = length-extended (root m) (generator K root d m) ∙ length-generator root d m
 
   length-moved : (f : F) (rs ts : List F) → length (moved K f rs ts) ≡ length ts
   length-moved f [] [] = refl
@@ -75,8 +75,8 @@ module _ {F : Type 0} {K : Ops F} (L : Laws K) where
   factor-ring a x u = simp ring
 
   -- one factor more
-  by-root-value : (a x g : F) (gs : List F) → last-of g gs ≡ o → mul x (horner K x o (by-root K a (g ∷ gs))) ≡ mul (add x a) (horner K x o (g ∷ gs))
-  by-root-value a x g gs h =
+  extended-value : (a x g : F) (gs : List F) → last-of g gs ≡ o → mul x (horner K x o (extended K a (g ∷ gs))) ≡ mul (add x a) (horner K x o (g ∷ gs))
+  extended-value a x g gs h =
       mixed-value a x (add (mul o x) g) (add (mul o x) g) g gs (start-ring a x g)
       ∙ ap (λ z. add (mul x (horner K x (add (mul o x) g) gs)) (mul a (add (horner K x (add (mul o x) g) gs) z))) h
       ∙ factor-ring a x (horner K x (add (mul o x) g) gs)
@@ -87,7 +87,7 @@ module _ {F : Type 0} {K : Ops F} (L : Laws K) where
   mixed-at a prev (g ∷ gs) (suc j) l = mixed-at a g gs j (omega arith)
 
   -- what stands past place m is zero
-  past-more : (a : F) (m : ℕ) (gs : List F) → ((j : ℕ) → m < j → getD gs j o ≡ o) → (j : ℕ) → suc m < j → getD (by-root K a gs) j o ≡ o
+  past-more : (a : F) (m : ℕ) (gs : List F) → ((j : ℕ) → m < j → getD gs j o ≡ o) → (j : ℕ) → suc m < j → getD (extended K a gs) j o ≡ o
   past-more a m [] h j l = refl
   past-more a m (g ∷ gs) h zero l = absurd (omega arith)
   past-more a m (g ∷ gs) h (suc j) l = go (decLe (suc j) (length gs))
@@ -117,16 +117,16 @@ module _ {F : Type 0} {K : Ops F} (L : Laws K) where
     generator-head zero = refl
     generator-head (suc m) = go (generator K root d m) (length-generator K root d m) ∙ generator-head m
       where
-        go : (gs : List F) → length gs ≡ suc d → getD (by-root K (root m) gs) 0 o ≡ getD gs 0 o
+        go : (gs : List F) → length gs ≡ suc d → getD (extended K (root m) gs) 0 o ≡ getD gs 0 o
         go [] e = refl
         go (g ∷ gs) e = refl
 
     factor : (m : ℕ) → m < d → (x : F) → mul x (horner K x o (generator K root d (suc m))) ≡ mul (add x (root m)) (horner K x o (generator K root d m))
     factor m l x = go (generator K root d m) (length-generator K root d m) (generator-past m)
       where
-        go : (gs : List F) → length gs ≡ suc d → ((j : ℕ) → m < j → getD gs j o ≡ o) → mul x (horner K x o (by-root K (root m) gs)) ≡ mul (add x (root m)) (horner K x o gs)
+        go : (gs : List F) → length gs ≡ suc d → ((j : ℕ) → m < j → getD gs j o ≡ o) → mul x (horner K x o (extended K (root m) gs)) ≡ mul (add x (root m)) (horner K x o gs)
         go [] e h = absurd (omega arith)
-        go (g ∷ gs) e h = by-root-value (root m) x g gs (last-at g gs ∙ h (length gs) (omega arith))
+        go (g ∷ gs) e h = extended-value (root m) x g gs (last-at g gs ∙ h (length gs) (omega arith))
 
     -- and is zero at each of its roots
     generator-roots : ((k : ℕ) → root k ≡ o → ⊥) → (m : ℕ) → m ≤ d → (k : ℕ) → k < m → horner K (root k) o (generator K root d m) ≡ o

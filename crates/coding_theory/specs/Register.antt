@@ -11,14 +11,14 @@ module _ {F : Type 0} (K : Ops F) where
   mixed a prev (g ∷ gs) = K .add g (K .mul a prev) ∷ mixed a g gs
 
   -- (x + a) g(x) / x, for a polynomial g that x divides
-  abbrev pub by-root : F → List F → List F
-  by-root a [] = []
-  by-root a (g ∷ gs) = g ∷ mixed a g gs
+  abbrev pub extended : F → List F → List F
+  extended a [] = []
+  extended a (g ∷ gs) = g ∷ mixed a g gs
 
   -- x^(d-m) times the product of x + root k over each k below m, in d + 1 coefficients
   abbrev pub generator : (ℕ → F) → ℕ → ℕ → List F
   generator root d zero = K .i ∷ replicate d (K .o)
-  generator root d (suc m) = by-root (root m) (generator root d m)
+  generator root d (suc m) = extended (root m) (generator root d m)
 
   -- the register behind its first symbol, moved on by one, plus f times the generator's lower coefficients
   abbrev pub moved : F → List F → List F → List F

@@ -1,1 +1,3 @@
-
+mod Values
+mod Register
+mod Encoding

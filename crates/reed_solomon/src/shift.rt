@@ -1,7 +1,6 @@
 // The field of bytes by shifts.
 ghost use Rattle.coding_theory.specs.Galois.{bytes, times as plain};
 ghost use mathlib.Core.Path.{_≡_};
-
 use crate::field::Field;
 
 // x times a: a shift, and x^8 replaced by x^4 + x^3 + x^2 + 1.

@@ -2,7 +2,6 @@
 ghost use Prim.Native.Nat.{_<_};
 ghost use Rattle.coding_theory.specs.Galois.{bytes, pow as powered};
 ghost use mathlib.Core.Path.{_≡_};
-
 use crate::exponents::EXPONENTS;
 use crate::field::Field;
 use crate::powers::POWERS;

@@ -1,0 +1,4 @@
+pub mod Hex
+pub mod Commands
+pub mod Replies
+pub mod Accounts
