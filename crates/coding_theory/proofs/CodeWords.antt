@@ -108,7 +108,7 @@ module _ {A : Arithmetic} (L : Lawful A) where
           ∙ ap₂ _++_ (back L ms am) (checks-hom (field L) (plain A) (code L) (hom L) root d ms′
           ∙ ap₂ (λ r z. checks (plain A) r d z) (fun-ext (λ k. sym (pow-lift L (b + k)))) (back L ms am))
 
-  horner-zeros : (x n : ℕ) → horner (plain A) x 0 (replicate n 0) ≡ 0
+  pub horner-zeros : (x n : ℕ) → horner (plain A) x 0 (replicate n 0) ≡ 0
   horner-zeros x zero = refl
   horner-zeros x (suc n) = ap (λ v. horner (plain A) x v (replicate n 0)) (L .add-zero (A .mul 0 x) (L .mul-below 0 x) ∙ L .mul-comm 0 x ∙ L .mul-zero x) ∙ horner-zeros x n
 

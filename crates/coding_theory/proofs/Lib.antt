@@ -16,3 +16,9 @@ pub mod Register
 pub mod Fill
 pub mod Differences
 pub mod CodeWords
+pub mod Massey
+pub mod Roots
+pub mod Elimination
+pub mod Restore
+pub mod Width
+pub mod Misaligned

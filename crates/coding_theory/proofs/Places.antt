@@ -1,5 +1,6 @@
 -- Places of a word: those that are not zero, and that none stands twice.
 use mathlib.Core.Path.{_≡_, refl, sym, ap, ap₂, _∙_}
+use mathlib.Core.Logic.{_⊎_}
 use mathlib.Core.List.{List, [], _∷_, map}
 use Prim.Native.Nat.{ℕ, zero, suc, _+_, _<_, _≤_}
 use native.Mathlib.Omega.{arith}
@@ -8,6 +9,11 @@ use Rattle.coding_theory.specs.Algebra.{Ops, Laws}
 use Rattle.coding_theory.specs.Words.{All, Apart, upto, power, sum}
 use Rattle.coding_theory.proofs.Algebra.{ring, o-add, o-mul, mul-i, i-mul}
 use Rattle.coding_theory.proofs.Vandermonde.{ApartBy, psum}
+
+-- q is one of ps
+abbrev pub In : ℕ → List ℕ → Type 0
+In q [] = ⊥
+In q (p ∷ ps) = (q ≡ p) ⊎ In q ps
 
 pub all-map : {A B : Type 0} (f : A → B) (P : B → Type 0) (xs : List A) → All (λ x. P (f x)) xs → All P (map f xs)
 all-map f P [] h = tt
@@ -112,6 +118,16 @@ module _ {F : Type 0} {K : Ops F} (L : Laws K) where
       go : (d : Dec (v p ≡ o)) → All (λ q. v q ≡ o) (keep-if K d p (support K v ps)) → (All (λ q. v q ≡ o) (support K v ps) → All (λ q. v q ≡ o) ps) → (v p ≡ o) × All (λ q. v q ≡ o) ps
       go (yes e) t r = (e, r t)
       go (no e) t r = (t .0, r (t .1))
+
+  -- what is zero on the support is zero where v is too
+  pub support-lift : (v g : ℕ → F) (ps : List ℕ) → All (λ p. mul (v p) (g p) ≡ o) (support K v ps) → All (λ p. mul (v p) (g p) ≡ o) ps
+  support-lift v g [] h = tt
+  support-lift v g (p ∷ ps) h = go (is-o (v p)) h (support-lift v g ps)
+    where
+      go : (d : Dec (v p ≡ o)) → All (λ q. mul (v q) (g q) ≡ o) (keep-if K d p (support K v ps))
+          → (All (λ q. mul (v q) (g q) ≡ o) (support K v ps) → All (λ q. mul (v q) (g q) ≡ o) ps) → (mul (v p) (g p) ≡ o) × All (λ q. mul (v q) (g q) ≡ o) ps
+      go (yes e) t r = (ap (λ u. mul u (g p)) e ∙ o-mul L (g p), r t)
+      go (no n) t r = (t .0, r (t .1))
 
   pub support-suc : (v : ℕ → F) (ps : List ℕ) → length (support K v (map suc ps)) ≡ length (support K (λ j. v (suc j)) ps)
   support-suc v [] = refl

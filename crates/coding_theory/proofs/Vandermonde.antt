@@ -26,7 +26,8 @@ module _ {F : Type 0} {K : Ops F} (L : Laws K) where
   step-ring : (a x y w s t : F) → add (mul (mul a (add x y)) w) (add t (mul y s)) ≡ add (add (mul a (mul x w)) t) (mul y (add (mul a w) s))
   step-ring a x y w s t = simp ring
 
-  step : (X : ℕ → F) (y : F) (ps : List ℕ) (v : ℕ → F) (k : ℕ)
+  -- the values, each times the sum of its locator and y
+  pub step : (X : ℕ → F) (y : F) (ps : List ℕ) (v : ℕ → F) (k : ℕ)
       → psum K X ps (λ p. mul (v p) (add (X p) y)) k ≡ add (psum K X ps v (suc k)) (mul y (psum K X ps v k))
   step X y [] v k = simp ring
   step X y (p ∷ ps) v k = ap (add (mul (mul (v p) (add (X p) y)) (power K (X p) k))) (step X y ps v k) ∙ step-ring (v p) (X p) y (power K (X p) k) (psum K X ps v k) (psum K X ps v (suc k))

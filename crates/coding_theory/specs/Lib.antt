@@ -4,3 +4,5 @@ pub mod Algebra
 pub mod Words
 pub mod Code
 pub mod Register
+pub mod Decoder
+pub mod Misaligned

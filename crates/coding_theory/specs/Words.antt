@@ -20,6 +20,11 @@ abbrev pub upto : ℕ → List ℕ
 upto zero = []
 upto (suc n) = 0 ∷ map suc (upto n)
 
+-- p, p + 1, .., k of them
+abbrev pub from : ℕ → ℕ → List ℕ
+from p zero = []
+from p (suc k) = p ∷ from (suc p) k
+
 module _ {F : Type 0} (K : Ops F) where
   -- a to the power n
   abbrev pub power : F → ℕ → F

@@ -1,6 +1,7 @@
 // Finite fields, and the codes over them that are zero at powers of alpha in a row: definitions and theorems.
 ghost use Rattle.coding_theory.specs.Code.{LightIsZero, MinimumDistance, UniqueChecks, ValueIsSum};
 ghost use Rattle.coding_theory.specs.Field.{Lawful};
+ghost use Rattle.coding_theory.specs.Misaligned.{EarlyWindows, LateWindows};
 ghost use Rattle.coding_theory.specs.Galois.{bytes, galois};
 
 // The bytes modulo x^8 + x^4 + x^3 + x^2 + 1, and the seven-bit numbers modulo x^7 + x^3 + 1, are fields.
@@ -23,6 +24,14 @@ pub fn words_are_apart() -> u8
     ensures apart { λ _. ⌜ MinimumDistance ⌝ }
     ensures light { λ _. ⌜ LightIsZero ⌝ }
     ensures checks { λ _. ⌜ UniqueChecks ⌝ }
+{
+    0
+}
+
+// Words read a few symbols late or early are never taken for the words that were sent, over every lawful field.
+pub fn misaligned_words_are_told() -> u8
+    ensures late { λ _. ⌜ LateWindows ⌝ }
+    ensures early { λ _. ⌜ EarlyWindows ⌝ }
 {
     0
 }

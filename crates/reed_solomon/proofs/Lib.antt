@@ -1,3 +1,9 @@
 mod Values
 mod Register
 mod Encoding
+mod Lists
+mod Sums
+mod Turns
+mod Elimination
+mod Differing
+mod Verdict

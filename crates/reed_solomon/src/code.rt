@@ -59,7 +59,7 @@ fn are_elements<F: Field>(word: &[u8]) -> bool
 }
 
 // Whether `word` is zero at `count` powers of alpha from alpha^first on.
-fn is_zero_at_powers<F: Field>(word: &[u8], first: u64, count: usize) -> bool
+pub(crate) fn is_zero_at_powers<F: Field>(word: &[u8], first: u64, count: usize) -> bool
     ensures { λ r. ⌜ Decides r ((k : ℕ) → k < count → horner (plain ops) (ops .pow (first + k)) 0 (now (word .entry)) ≡ 0) ⌝ }
 {
     let mut x = F::power(first);
