@@ -8,7 +8,7 @@ use lib.ListN.{length, take, drop}
 use Rattle.std.proofs.shelf.Lists.{length-drop, take-append-drop}
 use Rattle.coding_theory.specs.Words.{one-more, differ}
 
-differ-most : (xs ys : List ℕ) → differ xs ys ≤ length xs
+pub differ-most : (xs ys : List ℕ) → differ xs ys ≤ length xs
 differ-most [] ys = omega arith
 differ-most (x ∷ xs) [] = omega arith
 differ-most (x ∷ xs) (y ∷ ys) = go (ℕ-discrete x y) (differ-most xs ys)

@@ -7,3 +7,4 @@ mod Turns
 mod Elimination
 mod Differing
 mod Verdict
+mod Zeros

@@ -16,7 +16,7 @@ next-power A L b k g x y ey eg ex =
     let e : suc (b + k) ≡ b + (k + 1) = omega arith in
     ey ∙ ap₂ (A .mul) eg ex ∙ sym (L .pow-suc (b + k)) ∙ ap (A .pow) e
 
-length-values : (A : Arithmetic) (b d : ℕ) (w : List ℕ) → length (values A b d w) ≡ d
+pub length-values : (A : Arithmetic) (b d : ℕ) (w : List ℕ) → length (values A b d w) ≡ d
 length-values A b zero w = refl
 length-values A b (suc d) w = ap suc (length-values A (suc b) d w)
 

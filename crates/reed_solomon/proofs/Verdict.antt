@@ -15,7 +15,7 @@ use Rattle.coding_theory.specs.Misaligned.{laid, window}
 use Rattle.coding_theory.proofs.Differences.{differ-through}
 use Rattle.coding_theory.proofs.Distance.{minimum-distance}
 use Rattle.coding_theory.proofs.Misaligned.{late-windows, early-windows}
-use Rattle.reed_solomon.specs.Correction.{Near, Corrected, Read, LateRefused, EarlyBegins}
+use Rattle.reed_solomon.specs.Correction.{Near, Corrected, Read, LateRefused, EarlyBegins, OneCorrection}
 use Rattle.reed_solomon.specs.Refusals.{noWord}
 use Rattle.reed_solomon.specs.declared.refusal.CodeFault.{CodeFault}
 use Rattle.reed_solomon.specs.declared.refusal.CodeRefusal.{CodeRefusal}
@@ -112,3 +112,17 @@ module _ {A : Arithmetic} (L : Lawful A) (w e : List ℕ) (r : Result ℕ CodeRe
   early-begins ws i s n lo hi q ok =
       let m = h .sound n ok in
       early-windows A L 204 0 16 8 s lo (omega arith) (omega (arith, m .1)) (omega arith) ws (q .words) i (q .inside) e (m .2 .word) (omega (arith, m .2 .close, ap (differ e) (q .here)))
+
+pub one-correction : OneCorrection
+one-correction A w e e′ r r′ h h′ = go r r′ h h′
+  where
+    go : (r r′ : Result ℕ CodeRefusal) → Corrected A w e r → Corrected A w e′ r′ → (r ≡ r′) × (e ≡ e′)
+    go (Ok n) r′ h h′ =
+        let m = h .sound n refl in
+        let f = h′ .found (m .0) (m .1) e (m .2) in
+        (ap Ok (sym (m .3)) ∙ sym (f .0), sym (f .1))
+    go (Err Length) r′ h h′ = let f = h′ .short (h .length-only refl) in (sym (f .0), h .kept Length refl ∙ sym (f .1))
+    go (Err (Fault x)) r′ h h′ =
+        let m = h .fault x refl in
+        let f = h′ .none (m .1) (m .2) in
+        (ap (λ z. Err (Fault z)) (m .0) ∙ sym (f .0), h .kept (Fault x) refl ∙ sym (f .1))

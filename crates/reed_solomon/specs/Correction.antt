@@ -57,3 +57,7 @@ LateRefused A w e r = (ws : List (List ℕ)) (i s : ℕ) → 1 ≤ s → s ≤ 4
 -- one read as much early is refused, or begins with 0 when corrected
 abbrev pub EarlyBegins : Arithmetic → List ℕ → List ℕ → Result ℕ CodeRefusal → Type 0
 EarlyBegins A w e r = (ws : List (List ℕ)) (i s n : ℕ) → 1 ≤ s → s ≤ 4 → Read A w ws (204 * suc i - s) → r ≡ Ok n → getD e 0 0 ≡ 0
+
+-- Over a field there is one answer for each word, and one content of the buffer, on which two correctors agree.
+abbrev pub OneCorrection : Type 0
+OneCorrection = (A : Arithmetic) (w e e′ : List ℕ) (r r′ : Result ℕ CodeRefusal) → Corrected A w e r → Corrected A w e′ r′ → (r ≡ r′) × (e ≡ e′)

@@ -71,7 +71,7 @@ fn check<F: Field>(message: &[u8], first: u64, g: &mut [u8], register: &mut [u8]
 }
 
 // The message and behind it its check symbols.
-fn join(word: &mut [u8], message: &[u8], checks: &[u8])
+pub(crate) fn join(word: &mut [u8], message: &[u8], checks: &[u8])
     requires { ⌜ length (now word) ≡ length (now message) + length (now checks) ⌝ }
     ensures { λ _. ⌜ now (word .exit) ≡ now (message .entry) ++ now (checks .entry) ⌝ }
 {

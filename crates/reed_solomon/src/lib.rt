@@ -1,5 +1,6 @@
 // Finite fields of bytes, and the Reed-Solomon code of 204 bytes over them.
 mod agree;
+mod bytes;
 mod code;
 mod corrector;
 mod encoder;
@@ -13,6 +14,9 @@ mod shift;
 mod table;
 
 pub use agree::byte_fields_agree;
+pub use bytes::answers_are_unique;
+pub use bytes::correct_bytes;
+pub use bytes::encode_bytes;
 pub use code::BYTE_CODE;
 pub use code::Code;
 pub use code::is_code_word;

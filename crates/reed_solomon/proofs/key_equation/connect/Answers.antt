@@ -39,3 +39,6 @@ returns g c =
     let lc : length (set (c .args .con .now) 0 1) ≡ length (c .args .con .now) = length-set (c .args .con .now) 0 1 in
     let e : c .loop-n .n ≡ length (c .args .s .now) = omega arith in
     ap (λ (t : State ℕ). t .con) (c .loop-n .inv .3) ∙ ap₂ (λ w n. wide K w (λ k. getD (c .args .s .now) k 0) n .con) lc e
+
+pub advance-len-requires : need.advance-len-requires
+advance-len-requires g c κs = (c .loop-n-test .taken, omega (arith, c .pre .few), c .loop-n .inv .0, omega arith)

@@ -1,0 +1,6 @@
+mod Run
+mod Rule
+mod Words
+mod Four
+mod Numbers
+pub mod Ends

@@ -1,0 +1,10 @@
+-- The table is the list of the function's values, which antt computes.
+use native.Mathlib.Nat.{zero-add}
+use borrow.Author.Needs.{needs}
+use Rattle.std.proofs.shelf.Counted.{getD-map-counting}
+use Rattle.remainder.specs.Register.{combined, rows}
+use Rattle.remainder.proofs.multiple.Needs as need
+
+pub returns : need.returns
+unfolding combined rows
+returns c = getD-map-counting (combined rows) 0 256 (c .args .f) (c .args .f) 0 (search needs) (zero-add (c .args .f))
