@@ -8,6 +8,7 @@ ghost use lib.ListN.{length};
 ghost use mathlib.Core.List.{List};
 ghost use mathlib.Core.Path.{_≡_};
 use crate::code::syndromes;
+use crate::corrector::CORRECTABLE;
 use crate::corrector::candidate;
 use crate::corrector::distance;
 use crate::corrector::no_word;
@@ -48,7 +49,7 @@ fn settle_bytes(word: &mut [u8], fixed: &[u8; 204]) -> Result<u8, CodeRefusal>
     ensures { λ r. ⌜ Corrected field (now (word .entry)) (now (word .exit)) r ⌝ }
 {
     let count = distance(fixed, word);
-    if count > 8 {
+    if count > CORRECTABLE {
         return Err(no_word());
     }
     if gap(fixed) != 0 {

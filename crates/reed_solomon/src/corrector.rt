@@ -18,6 +18,9 @@ use crate::refusal::CodeFault;
 use crate::refusal::CodeRefusal;
 use crate::repair::restore;
 
+// How many wrong bytes are corrected.
+pub(crate) const CORRECTABLE: usize = 8;
+
 // At how many places two words of one length differ.
 pub(crate) fn distance(a: &[u8], b: &[u8]) -> usize
     requires { ⌜ length (now a) ≡ length (now b) ⌝ }
@@ -81,7 +84,7 @@ fn settle<F: Field>(word: &mut [u8], fixed: &[u8; 204]) -> Result<u8, CodeRefusa
     ensures { λ r. ⌜ Corrected ops (now (word .entry)) (now (word .exit)) r ⌝ }
 {
     let count = distance(fixed, word);
-    if count > 8 {
+    if count > CORRECTABLE {
         return Err(no_word());
     }
     if !is_zero_at_powers::<F>(fixed, 0, 16) {

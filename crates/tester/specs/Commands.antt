@@ -8,7 +8,7 @@ use lib.Dec.{eqb}
 use lib.ListN.{length, getD, take, drop}
 use Rattle.tester.specs.Hex.{isDigit}
 use Rattle.tester.specs.declared.command.Verb.{Verb}
-use Rattle.tester.specs.declared.command.Verb.the-variants.{Code, Check}
+use Rattle.tester.specs.declared.command.Verb.the-variants.{Code, Check, Correct}
 use Rattle.tester.specs.declared.command.Flaw.{Flaw}
 use Rattle.tester.specs.declared.command.Flaw.the-variants.{Empty, UnknownVerb, NotADigit, OddDigits}
 
@@ -16,6 +16,7 @@ use Rattle.tester.specs.declared.command.Flaw.the-variants.{Empty, UnknownVerb
 abbrev pub nameOf : Verb → List ℕ
 nameOf Code = codes "code"
 nameOf Check = codes "check"
+nameOf Correct = codes "correct"
 
 -- where the first space stands, or the length
 abbrev pub spaceAt : List ℕ → ℕ

@@ -1,5 +1,5 @@
 // The account: how many lines of each kind there were.
-ghost use Rattle.tester.specs.Accounts.{linesOf, noted};
+ghost use Rattle.tester.specs.Accounts.{empty, linesOf, noted};
 ghost use mathlib.Core.Path.{_≡_};
 use crate::reply::Kind;
 
@@ -10,11 +10,15 @@ pub struct Account {
     pub wrong: u64,
     pub refused: u64,
     pub unreadable: u64,
+    pub corrected_words: u64,
+    pub corrected_bytes: u64,
+    // those of `refused` that no code word was near
+    pub refused_words: u64,
 }
 
 impl Account {
     pub fn new() -> Account
-        ensures { λ r. ⌜ linesOf r ≡ 0 ⌝ }
+        ensures { λ r. ⌜ r ≡ empty ⌝ }
     {
         Account {
             coded: 0,
@@ -22,6 +26,9 @@ impl Account {
             wrong: 0,
             refused: 0,
             unreadable: 0,
+            corrected_words: 0,
+            corrected_bytes: 0,
+            refused_words: 0,
         }
     }
 
@@ -33,7 +40,15 @@ impl Account {
             Kind::Coded => self.coded = self.coded.saturating_add(1),
             Kind::Right => self.right = self.right.saturating_add(1),
             Kind::Wrong => self.wrong = self.wrong.saturating_add(1),
+            Kind::Corrected(count) => {
+                self.corrected_words = self.corrected_words.saturating_add(1);
+                self.corrected_bytes = self.corrected_bytes.saturating_add(count as u64);
+            }
             Kind::Refused => self.refused = self.refused.saturating_add(1),
+            Kind::Lost => {
+                self.refused = self.refused.saturating_add(1);
+                self.refused_words = self.refused_words.saturating_add(1);
+            }
             Kind::Unreadable => self.unreadable = self.unreadable.saturating_add(1),
         }
     }
@@ -47,5 +62,6 @@ impl Account {
             + self.wrong as u128
             + self.refused as u128
             + self.unreadable as u128
+            + self.corrected_words as u128
     }
 }

@@ -15,6 +15,8 @@ pub enum Verb {
     Code,
     // tell whether a word is a code word
     Check,
+    // correct a word
+    Correct,
 }
 
 // Why a line is no command.
@@ -60,6 +62,8 @@ fn verb_named(name: &[u8]) -> Option<Verb>
         Some(Verb::Code)
     } else if same(name, b"check") {
         Some(Verb::Check)
+    } else if same(name, b"correct") {
+        Some(Verb::Correct)
     } else {
         None
     }

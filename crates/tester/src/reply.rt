@@ -7,7 +7,8 @@ use crate::hex::decode;
 use reed_solomon::BYTE_CODE;
 use reed_solomon::Table256;
 use reed_solomon::Table256Field;
-use reed_solomon::encode;
+use reed_solomon::correct_bytes;
+use reed_solomon::encode_bytes;
 use reed_solomon::is_code_word;
 
 #[derive(Clone, Copy)]
@@ -17,6 +18,8 @@ pub enum Reply {
     // the word is a code word, or is none
     Right,
     Wrong,
+    // the code word, and how many bytes differed
+    Corrected(u8, [u8; 204]),
     // the number of the refusal
     Refused(u32),
 }
@@ -27,7 +30,12 @@ pub enum Kind {
     Coded,
     Right,
     Wrong,
+    // how many bytes were corrected
+    Corrected(u8),
+    // refused for its length
     Refused,
+    // refused since no code word is near
+    Lost,
     Unreadable,
 }
 
@@ -38,7 +46,7 @@ fn code(digits: &[u8]) -> Reply
     if !decode(digits, &mut packet) {
         return Reply::Refused(3);
     }
-    Reply::Word(encode::<Table256>(&packet))
+    Reply::Word(encode_bytes(&packet))
 }
 
 fn check(digits: &[u8]) -> Reply
@@ -55,6 +63,19 @@ fn check(digits: &[u8]) -> Reply
     }
 }
 
+fn correct(digits: &[u8]) -> Reply
+    ensures { λ r. ⌜ Answers Verb.Correct (now (digits .entry)) r ⌝ }
+{
+    let mut word = [0u8; 204];
+    if !decode(digits, &mut word) {
+        return Reply::Refused(14);
+    }
+    match correct_bytes(&mut word) {
+        Ok(count) => Reply::Corrected(count, word),
+        Err(refusal) => Reply::Refused(refusal.number()),
+    }
+}
+
 // The reply to a command.
 pub fn answer(command: Command<'_>) -> Reply
     ensures { λ r. ⌜ Answers (command .entry .verb) (now (command .entry .digits)) r ⌝ }
@@ -62,6 +83,7 @@ pub fn answer(command: Command<'_>) -> Reply
     match command.verb {
         Verb::Code => code(command.digits),
         Verb::Check => check(command.digits),
+        Verb::Correct => correct(command.digits),
     }
 }
 
@@ -73,7 +95,14 @@ impl Reply {
             Reply::Word(_) => Kind::Coded,
             Reply::Right => Kind::Right,
             Reply::Wrong => Kind::Wrong,
-            Reply::Refused(_) => Kind::Refused,
+            Reply::Corrected(count, _) => Kind::Corrected(*count),
+            Reply::Refused(number) => {
+                if *number == 11 {
+                    Kind::Lost
+                } else {
+                    Kind::Refused
+                }
+            }
         }
     }
 }

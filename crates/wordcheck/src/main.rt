@@ -29,6 +29,7 @@ fn print_reply(rt: &impl Print, reply: Reply) -> Result<(), AnyError> {
         Reply::Word(word) => println!(rt, "word {}", Hex(&word))?,
         Reply::Right => println!(rt, "right")?,
         Reply::Wrong => println!(rt, "wrong")?,
+        Reply::Corrected(count, word) => println!(rt, "corrected {count} {}", Hex(&word))?,
         Reply::Refused(number) => println!(rt, "refused {number}")?,
     }
     Ok(())
@@ -90,6 +91,9 @@ fn print_account(rt: &impl Print, account: &Account) -> Result<(), AnyError> {
     println!(rt, "wrong {}", account.wrong)?;
     println!(rt, "refused {}", account.refused)?;
     println!(rt, "unreadable {}", account.unreadable)?;
+    println!(rt, "corrected_words {}", account.corrected_words)?;
+    println!(rt, "corrected_bytes {}", account.corrected_bytes)?;
+    println!(rt, "refused_words {}", account.refused_words)?;
     Ok(())
 }
 
