@@ -1,4 +1,6 @@
 // The code for callers in C: encoder, corrector and word reader on the caller's own buffer of 204 bytes.
+#![tactic(auto)]
+
 ghost use Rattle.std.specs.Prelude.{◌≡◌, ℕ};
 ghost use Rattle.code_c.specs.Calls.{Corrects, Encodes, mend_number};
 ghost use Rattle.framing.specs.Laws.{MisalignedUnread};

@@ -1,4 +1,6 @@
 // Finite fields, and the codes over them that are zero at powers of alpha in a row: definitions and theorems.
+#![tactic(auto)]
+
 ghost use Rattle.coding_theory.specs.Code.{LightIsZero, MinimumDistance, UniqueChecks, ValueIsSum};
 ghost use Rattle.coding_theory.specs.Field.{Lawful};
 ghost use Rattle.coding_theory.specs.Misaligned.{EarlyWindows, LateWindows};

@@ -1,4 +1,6 @@
 // Delay lines over frames of 204 slots: straight, a board delay, the interleaver, cascades of them, and whole schemes.
+#![tactic(auto)]
+
 mod board;
 mod cascade;
 mod delay;

@@ -1,4 +1,6 @@
 // Examples for the delay lines.
+#![tactic(auto)]
+
 #[cfg(test)]
 mod tests {
     use delay_line::{

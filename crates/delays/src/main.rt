@@ -1,4 +1,6 @@
 // Sends numbered bytes through delay schemes and back, and prints what became of them; then compares the interleaver with recorded frames.
+#![tactic(auto)]
+
 mod packets;
 mod probe;
 mod table;

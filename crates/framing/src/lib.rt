@@ -1,4 +1,6 @@
 // From packets to words and back: the randomizer, groups of eight, and the word reader.
+#![tactic(auto)]
+
 mod group;
 mod laws;
 mod mask;

@@ -1,4 +1,6 @@
 // Examples for randomizer, groups and word reader.
+#![tactic(auto)]
+
 #[cfg(test)]
 mod tests {
     use framing::{Event, Group, derandomize, mend, randomize, sent_word};

@@ -1,4 +1,6 @@
 // Sender and receiver: packets to symbols and back, over any delay line.
+#![tactic(auto)]
+
 mod both;
 mod cutter;
 mod outcome;

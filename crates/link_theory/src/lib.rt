@@ -1,4 +1,6 @@
 // The link from packets to symbols and back, as models with laws over whole runs of calls; and the refusals of its calls.
+#![tactic(auto)]
+
 mod laws;
 mod refusal;
 

@@ -1,5 +1,7 @@
 // Sends a transport stream through sender and receiver over each mapping, some delay lines and some damage, and prints what became of its
 // packets.
+#![tactic(auto)]
+
 mod damage;
 mod path;
 mod table;

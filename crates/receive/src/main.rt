@@ -1,5 +1,7 @@
 // Reads symbols, a byte each, from standard input, and writes the transport packets that they carry to standard output: 64-QAM, or as many
 // bits to a symbol as the argument says, over the interleaver. The account goes to standard error.
+#![tactic(auto)]
+
 mod account;
 
 use crate::account::Account;

@@ -1,4 +1,6 @@
 // Finite fields of bytes, and the Reed-Solomon code of 204 bytes over them.
+#![tactic(auto)]
+
 mod agree;
 mod bytes;
 mod code;

@@ -1,4 +1,6 @@
 // Examples for the fields and the code.
+#![tactic(auto)]
+
 #[cfg(test)]
 mod tests {
     use reed_solomon::{

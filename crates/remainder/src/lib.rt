@@ -1,4 +1,6 @@
 // The remainder by the generator polynomial of the code with sixteen check bytes, four bytes at a step.
+#![tactic(auto)]
+
 ghost use Rattle.std.specs.Prelude.{◌≡◌, ℕ, ◌<◌, ◌++◌, Decides};
 ghost use Rattle.remainder.specs.Register.{SameValues, Zeros, absorbed, bytes_of, combined, rows, rows1, rows2, rows3};
 

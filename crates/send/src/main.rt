@@ -1,5 +1,7 @@
 // Reads transport packets of 188 bytes from standard input, and writes their symbols, a byte each, to standard output: 64-QAM, or as many
 // bits to a symbol as the argument says, over the interleaver. The account goes to standard error.
+#![tactic(auto)]
+
 use anyhow::anyhow;
 use delay_line::{DelayLine, Interleaving, Scheme};
 use link::Sender;

@@ -1,4 +1,6 @@
 // The line's bytes to symbols of 16-, 32- and 64-QAM, and back.
+#![tactic(auto)]
+
 ghost use Rattle.symbols.specs.Laws.{BooleanExpression, ClosedForm, DecodedIsSent, ReadBytes, UndamagedBytes, WorkedSymbols, WrittenIsRead};
 
 mod differential;

@@ -1,4 +1,6 @@
 // Examples for mapping, symbol writer and symbol reader.
+#![tactic(auto)]
+
 #[cfg(test)]
 mod tests {
     use std::test::Fail;

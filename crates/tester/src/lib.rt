@@ -1,4 +1,6 @@
 // The commands of the tester's line tool: a verb and hex digits on a line, and what is answered.
+#![tactic(auto)]
+
 mod account;
 mod command;
 mod hex;

@@ -1,4 +1,6 @@
 // Reads a command a line from standard input, and writes an answer a line and an account at the end.
+#![tactic(auto)]
+
 ghost use Rattle.std.specs.Prelude.{◌<◌, ◌≤◌, length};
 
 use std::fmt;
