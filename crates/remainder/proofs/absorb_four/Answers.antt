@@ -7,6 +7,6 @@ pub returns : goal.returns
 unfolding singly
 returns c =
     let x = c.args.state in
-    ap₂ bit_xor (ap₂ bit_xor (ap₂ bit_xor (ap (bit_xor (x * 2 ^ 32 % 2 ^ 128)) c.multiple-3.ensures) c.multiple-2.ensures) c.multiple-1.ensures)
+    ap₂ bit_xor (ap₂ bit_xor (ap₂ bit_xor (ap (bit_xor (x * 2 ^ 32 % 2 ^ 128)) c.multiple_3.ensures) c.multiple_2.ensures) c.multiple_1.ensures)
     c.multiple.ensures
     ∙ same_four x c.args.a c.args.b c.args.c c.args.d (search rules) (search rules) (search rules) (search rules) (search rules)

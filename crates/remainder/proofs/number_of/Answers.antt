@@ -8,4 +8,4 @@ returns c =
     let xs : List ℕ = c.args.bytes in
     let len : length xs ≡ 16 = search rules in
     let fits : (i : ℕ) → get_or xs i 0 < 256 = search rules in
-    ap (bytes_of 16) (c.from-be-bytes.ensures ∙ total_is xs len) ∙ ap (λ k. bytes_of k (number_from 0 xs)) (sym len) ∙ bytes_back xs 0 fits
+    ap (bytes_of 16) (c.from_be_bytes.ensures ∙ total_is xs len) ∙ ap (λ k. bytes_of k (number_from 0 xs)) (sym len) ∙ bytes_back xs 0 fits

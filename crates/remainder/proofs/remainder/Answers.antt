@@ -14,7 +14,7 @@ loop-i-preserved c =
     let within : i + 3 < length xs = omega arith in
     let P : ℕ → Type 0 = λ y. Stands xs (i + 4) y in (
       omega arith,
-      subst P (sym c.absorb-four-state.ensures)
+      subst P (sym c.absorb_four-state.ensures)
           (stands_four xs i c.loop-i.state (get_or xs i 0) (get_or xs (i + 1) 0) (get_or xs (i + 2) 0) (get_or xs (i + 3) 0) within
           refl refl refl refl (search rules) (search rules) (search rules) (search rules) c.loop-i.invariant.1),
     )
