@@ -24,7 +24,7 @@ pub const BYTE_CODE: Code = Code {
 
 // The value at `x` of the polynomial whose coefficients are given from the highest down.
 pub(crate) fn evaluate<F: Field>(coefficients: &[u8], x: u8) -> u8
-    ensures { result ≡ horner (plain ops) x 0 coefficients.now }
+    ensures { result ≡ horner (plain F.ops) x 0 coefficients.now }
 {
     let mut value = 0;
     for c in coefficients {
@@ -35,7 +35,7 @@ pub(crate) fn evaluate<F: Field>(coefficients: &[u8], x: u8) -> u8
 
 // The values of `word` at alpha^first, alpha^(first+1), .., as many as `out` holds.
 pub fn syndromes<F: Field>(word: &[u8], first: u64, out: &mut [u8])
-    ensures { out.new ≡ values ops first (length out.old) word.now }
+    ensures { out.new ≡ values F.ops first (length out.old) word.now }
 {
     let mut x = F::power(first);
     for k in 0..out.len() {
@@ -46,7 +46,7 @@ pub fn syndromes<F: Field>(word: &[u8], first: u64, out: &mut [u8])
 
 // Whether each symbol is an element of the field.
 fn are_elements<F: Field>(word: &[u8]) -> bool
-    ensures { Decides result ((k : ℕ) → k < length word.now → slice_index word.now k < ops.order) }
+    ensures { Decides result ((k : ℕ) → k < length word.now → slice_index word.now k < F.ops.order) }
 {
     for symbol in word {
         if *symbol as usize >= F::elements() {
@@ -58,7 +58,7 @@ fn are_elements<F: Field>(word: &[u8]) -> bool
 
 // Whether `word` is zero at `count` powers of alpha from alpha^first on.
 pub(crate) fn is_zero_at_powers<F: Field>(word: &[u8], first: u64, count: usize) -> bool
-    ensures { Decides result ((k : ℕ) → k < count → horner (plain ops) (ops.pow (first + k)) 0 word.now ≡ 0) }
+    ensures { Decides result ((k : ℕ) → k < count → horner (plain F.ops) (F.ops.pow (first + k)) 0 word.now ≡ 0) }
 {
     let mut x = F::power(first);
     for _k in 0..count {
@@ -72,7 +72,7 @@ pub(crate) fn is_zero_at_powers<F: Field>(word: &[u8], first: u64, count: usize)
 
 // Whether `word` is a word of the code.
 pub fn is_code_word<F: Field>(code: Code, word: &[u8]) -> bool
-    ensures { Decides result (CodeWord ops code.length code.first code.powers word.now) }
+    ensures { Decides result (CodeWord F.ops code.length code.first code.powers word.now) }
 {
     word.len() == code.length
         && are_elements::<F>(word)

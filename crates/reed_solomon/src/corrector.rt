@@ -54,8 +54,8 @@ pub(crate) fn no_word() -> CodeRefusal
 // The one word that can be a code word within eight bytes of `word`, whose syndromes are `s`; nothing if there is none.
 pub(crate) fn candidate<F: Field>(word: &[u8], s: &[u8]) -> Option<[u8; 204]>
     requires word_len { length word.now ≡ 204 }
-    requires s_value { s.now ≡ values ops 0 16 word.now }
-    ensures { elim result [ None ↦ ((c : List ℕ) → ops.order ≡ 256 → Near ops word.now c → ⊥) | Some v ↦ ((c : List ℕ) → ops.order ≡ 256 → Near ops word.now c → v ≡ c) ] }
+    requires s_value { s.now ≡ values F.ops 0 16 word.now }
+    ensures { elim result [ None ↦ ((c : List ℕ) → F.ops.order ≡ 256 → Near F.ops word.now c → ⊥) | Some v ↦ ((c : List ℕ) → F.ops.order ≡ 256 → Near F.ops word.now c → v ≡ c) ] }
 {
     let mut fixed = [0u8; 204];
     fixed.copy_from_slice(word);
@@ -73,9 +73,9 @@ pub(crate) fn candidate<F: Field>(word: &[u8], s: &[u8]) -> Option<[u8; 204]>
 // Takes `fixed` for the word if it is a code word within eight bytes of it.
 fn settle<F: Field>(word: &mut [u8], fixed: &[u8; 204]) -> Result<u8, CodeRefusal>
     requires word_len { length word.old ≡ 204 }
-    requires order_value { ops.order ≡ 256 }
-    requires by_index { (c : List ℕ) → ops.order ≡ 256 → Near ops word.old c → fixed.now ≡ c }
-    ensures { Corrected ops word.old word.new result }
+    requires order_value { F.ops.order ≡ 256 }
+    requires by_index { (c : List ℕ) → F.ops.order ≡ 256 → Near F.ops word.old c → fixed.now ≡ c }
+    ensures { Corrected F.ops word.old word.new result }
 {
     let count = distance(fixed, word);
     if count > CORRECTABLE {
@@ -90,7 +90,7 @@ fn settle<F: Field>(word: &mut [u8], fixed: &[u8; 204]) -> Result<u8, CodeRefusa
 
 // The code word within eight bytes, or the fault.
 fn decide<F: Field>(word: &mut [u8]) -> Result<u8, CodeRefusal>
-    ensures { Corrected ops word.old word.new result }
+    ensures { Corrected F.ops word.old word.new result }
 {
     if word.len() != 204 {
         return Err(CodeRefusal::Length);
@@ -112,9 +112,9 @@ fn decide<F: Field>(word: &mut [u8]) -> Result<u8, CodeRefusal>
 // Puts the code word within eight bytes of `word` in its place, and answers how many bytes differed; a word read one to four bytes late
 // is refused, and one read early is refused or begins with 0.
 pub fn correct<F: Field>(word: &mut [u8]) -> Result<u8, CodeRefusal>
-    ensures corrected { Corrected ops word.old word.new result }
-    ensures late { LateRefused ops word.old word.new result }
-    ensures early { EarlyBegins ops word.old word.new result }
+    ensures corrected { Corrected F.ops word.old word.new result }
+    ensures late { LateRefused F.ops word.old word.new result }
+    ensures early { EarlyBegins F.ops word.old word.new result }
 {
     decide::<F>(word)
 }

@@ -9,7 +9,7 @@ use crate::field::Field;
 // One root more for the polynomial `g`: it is multiplied by x + a and divided by x.
 fn extend<F: Field>(g: &mut [u8], a: u8)
     requires { 0 < length g.old }
-    ensures { g.new ≡ extended (plain ops) a g.old }
+    ensures { g.new ≡ extended (plain F.ops) a g.old }
 {
     let mut prev = g[0];
     for i in 1..g.len() {
@@ -22,7 +22,7 @@ fn extend<F: Field>(g: &mut [u8], a: u8)
 // The polynomial with the roots alpha^first, alpha^(first+1), ..: `count` of them, from the highest coefficient down.
 fn generator<F: Field>(first: u64, count: usize, g: &mut [u8])
     requires { g.old ≡ replicate (suc count) 0 }
-    ensures { g.new ≡ generatorOf (plain ops) (λ k. ops.pow (first + k)) count count }
+    ensures { g.new ≡ generatorOf (plain F.ops) (λ k. F.ops.pow (first + k)) count count }
 {
     g[0] = 1;
     let mut x = F::power(first);
@@ -36,7 +36,7 @@ fn generator<F: Field>(first: u64, count: usize, g: &mut [u8])
 fn feed<F: Field>(tail: &[u8], register: &mut [u8], symbol: u8)
     requires tail_len { length tail.now ≡ length register.old }
     requires register_nonzero { 0 < length register.old }
-    ensures { register.new ≡ fed (plain ops) tail.now register.old symbol }
+    ensures { register.new ≡ fed (plain F.ops) tail.now register.old symbol }
 {
     let factor = F::sum(symbol, register[0]);
     let last = register.len() - 1;
@@ -50,7 +50,7 @@ fn feed<F: Field>(tail: &[u8], register: &mut [u8], symbol: u8)
 fn divide<F: Field>(tail: &[u8], register: &mut [u8], message: &[u8])
     requires tail_len { length tail.now ≡ length register.old }
     requires register_nonzero { 0 < length register.old }
-    ensures { register.new ≡ divided (plain ops) tail.now register.old message.now }
+    ensures { register.new ≡ divided (plain F.ops) tail.now register.old message.now }
 {
     for symbol in message {
         feed::<F>(tail, register, *symbol);
@@ -62,7 +62,7 @@ fn check<F: Field>(message: &[u8], first: u64, g: &mut [u8], register: &mut [u8]
     requires register_nonzero { 0 < length register.old }
     requires g_value { g.old ≡ replicate (suc (length register.old)) 0 }
     requires register_value { register.old ≡ replicate (length register.old) 0 }
-    ensures { register.new ≡ checksOf (plain ops) (λ k. ops.pow (first + k)) (length register.old) message.now }
+    ensures { register.new ≡ checksOf (plain F.ops) (λ k. F.ops.pow (first + k)) (length register.old) message.now }
 {
     generator::<F>(first, register.len(), g);
     divide::<F>(&g[1..], register, message);
@@ -80,7 +80,7 @@ pub(crate) fn join(word: &mut [u8], message: &[u8], checks: &[u8])
 
 // The word of 204 bytes that begins with the message; over a field that has not 256 elements the check bytes are 0.
 pub fn encode<F: Field>(message: &[u8; 188]) -> [u8; 204]
-    ensures { Encoded ops message.now result }
+    ensures { Encoded F.ops message.now result }
 {
     let mut word = [0u8; 204];
     let mut register = [0u8; 16];

@@ -10,7 +10,7 @@ use crate::field::Field;
 // The coefficient of x^n in the product of `con` and the syndromes.
 fn discrepancy<F: Field>(con: &[u8], s: &[u8], n: usize) -> u8
     requires { n < length s.now }
-    ensures { result ≡ disc (plain ops) con.now (λ k. slice_index s.now k) n }
+    ensures { result ≡ disc (plain F.ops) con.now (λ k. slice_index s.now k) n }
 {
     let top = if con.len() <= n { con.len() } else { n + 1 };
     let mut acc = 0;
@@ -35,7 +35,7 @@ fn shift(p: &mut [u8])
 // Adds `a` times `q` to `p`.
 fn add_scaled<F: Field>(p: &mut [u8], a: u8, q: &[u8])
     requires { length q.now ≡ length p.old }
-    ensures { p.new ≡ plus (plain ops) p.old (scale (plain ops) a q.now) }
+    ensures { p.new ≡ plus (plain F.ops) p.old (scale (plain F.ops) a q.now) }
 {
     for i in 0..p.len() {
         p[i] = F::sum(p[i], F::product(a, q[i]));
@@ -45,8 +45,8 @@ fn add_scaled<F: Field>(p: &mut [u8], a: u8, q: &[u8])
 // Adds `a` times `q` to `p`, and leaves `b` times the old `p` in `q`.
 fn exchange<F: Field>(p: &mut [u8], q: &mut [u8], a: u8, b: u8)
     requires { length q.old ≡ length p.old }
-    ensures first { p.new ≡ plus (plain ops) p.old (scale (plain ops) a q.old) }
-    ensures second { q.new ≡ scale (plain ops) b p.old }
+    ensures first { p.new ≡ plus (plain F.ops) p.old (scale (plain F.ops) a q.old) }
+    ensures second { q.new ≡ scale (plain F.ops) b p.old }
 {
     for i in 0..p.len() {
         let old = p[i];
@@ -62,7 +62,7 @@ fn advance<F: Field>(s: &[u8], n: usize, len: usize, con: &mut [u8], rep: &mut [
     requires len_le_n { len ≤ n }
     requires rep_len { length rep.old ≡ length con.old }
     ensures below { result ≤ n + 1 }
-    ensures turned { state result con.new rep.new ≡ turned (plain ops) (length con.old) (λ k. slice_index s.now k) n (state len con.old rep.old) }
+    ensures turned { state result con.new rep.new ≡ turned (plain F.ops) (length con.old) (λ k. slice_index s.now k) n (state len con.old rep.old) }
 {
     let d = discrepancy::<F>(con, s, n);
     if d == 0 {
@@ -85,7 +85,7 @@ pub(crate) fn connect<F: Field>(s: &[u8], con: &mut [u8], rep: &mut [u8])
     requires wide { 2 ≤ length con.old }
     requires con { con.old ≡ replicate (length con.old) 0 }
     requires rep { rep.old ≡ replicate (length con.old) 0 }
-    ensures { con.new ≡ (wide (plain ops) (length con.old) (λ k. slice_index s.now k) (length s.now)).con }
+    ensures { con.new ≡ (wide (plain F.ops) (length con.old) (λ k. slice_index s.now k) (length s.now)).con }
 {
     con[0] = 1;
     rep[1] = 1;

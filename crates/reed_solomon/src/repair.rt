@@ -13,7 +13,7 @@ use crate::key_equation::connect;
 // they begin there, or nothing if they are more than `found` holds.
 fn locate<F: Field>(con: &[u8], n: usize, found: &mut [u8]) -> Option<usize>
     requires { n ≤ 256 }
-    ensures { elim result [ None ↦ length found.old < length (located (plain ops) (λ p. ops.pow (n - suc p)) con.now (from 0 n)) | Some k ↦ (k ≤ length found.old) × (drop k found.new ≡ located (plain ops) (λ p. ops.pow (n - suc p)) con.now (from 0 n)) ] }
+    ensures { elim result [ None ↦ length found.old < length (located (plain F.ops) (λ p. F.ops.pow (n - suc p)) con.now (from 0 n)) | Some k ↦ (k ≤ length found.old) × (drop k found.new ≡ located (plain F.ops) (λ p. F.ops.pow (n - suc p)) con.now (from 0 n)) ] }
 {
     let mut start = found.len();
     let mut x = 1;
@@ -33,14 +33,14 @@ fn locate<F: Field>(con: &[u8], n: usize, found: &mut [u8]) -> Option<usize>
 // The locator of place `p` in a word of `n` symbols.
 fn locator<F: Field>(n: usize, p: u8) -> u8
     requires { p < n }
-    ensures { result ≡ ops.pow (n - suc p) }
+    ensures { result ≡ F.ops.pow (n - suc p) }
 {
     F::power((n - 1 - p as usize) as u64)
 }
 
 // Takes the place with the locator `y` out of the power sums `t`.
 fn take_out<F: Field>(t: &mut [u8], y: u8)
-    ensures { t.new ≡ taken (plain ops) y t.old }
+    ensures { t.new ≡ taken (plain F.ops) y t.old }
 {
     for i in 1..t.len() {
         t[i - 1] = F::sum(F::product(y, t[i - 1]), t[i]);
@@ -49,7 +49,7 @@ fn take_out<F: Field>(t: &mut [u8], y: u8)
 
 // `x` to the power `e`.
 fn raised<F: Field>(x: u8, e: u64) -> u8
-    ensures { result ≡ power (plain ops) x e }
+    ensures { result ≡ power (plain F.ops) x e }
 {
     let mut value = 1;
     for _i in 0..e {
@@ -64,7 +64,7 @@ fn value<F: Field>(sums: &[u8], t: &mut [u8], places: &[u8], n: usize, first: u6
     requires t_len { length t.old ≡ length sums.now }
     requires q_lt_n { q < n }
     requires by_index { (k : ℕ) → k < length places.now → slice_index places.now k < n }
-    ensures { result ≡ valued (plain ops) (λ p. ops.pow (n - suc p)) q places.now sums.now (power (plain ops) (ops.pow (n - suc q)) first) }
+    ensures { result ≡ valued (plain F.ops) (λ p. F.ops.pow (n - suc p)) q places.now sums.now (power (plain F.ops) (F.ops.pow (n - suc q)) first) }
 {
     let x = locator::<F>(n, q);
     t.copy_from_slice(sums);
@@ -84,7 +84,7 @@ fn repair<F: Field>(word: &mut [u8], sums: &[u8], t: &mut [u8], places: &[u8], f
     requires sums_len { length sums.now ≡ length places.now }
     requires t_len { length t.old ≡ length sums.now }
     requires by_index { (k : ℕ) → k < length places.now → slice_index places.now k < length word.old }
-    ensures { word.new ≡ repaired (plain ops) (λ p. ops.pow (length word.old - suc p)) first sums.now places.now places.now word.old }
+    ensures { word.new ≡ repaired (plain F.ops) (λ p. F.ops.pow (length word.old - suc p)) first sums.now places.now places.now word.old }
 {
     let n = word.len();
     for p in places {
@@ -110,7 +110,7 @@ pub(crate) fn restore<F: Field>(
     requires t_len { length t.old ≡ length found.old }
     requires con_value { con.old ≡ replicate (suc (length found.old)) 0 }
     requires rep_value { rep.old ≡ replicate (suc (length found.old)) 0 }
-    ensures { Restored ops first (length found.old) s.now word.old word.new result }
+    ensures { Restored F.ops first (length found.old) s.now word.old word.new result }
 {
     connect::<F>(s, con, rep);
     let Some(start) = locate::<F>(con, word.len(), found) else {

@@ -13,7 +13,7 @@ returns-then-left-eq0 c =
     clean bytes_lawful w (omega arith) refl (word_of w (omega arith) (λ k. search rules) (c.gap-left.ensures.clean.0 c.if-left-eq0.true))
 
 pub candidate-requires : goal.candidate-requires
-candidate-requires c = (
-  omega arith,
-  c.syndromes.ensures ∙ ap (values bytes 0 16) c.bytes-of.ensures ∙ same_syndromes (bytes_of 16 c.gap-left.result) c.args.word.now c.gap-left.ensures.values,
-)
+candidate-requires c = record {
+  word_len = omega arith;
+  s_value = c.syndromes.ensures ∙ ap (values bytes 0 16) c.bytes_of.ensures ∙ same_syndromes (bytes_of 16 c.gap-left.result) c.args.word.now c.gap-left.ensures.values;
+}

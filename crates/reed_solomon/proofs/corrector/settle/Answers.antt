@@ -9,12 +9,12 @@ true_not_false e = let z : ◌≡◌ {A = ℕ} 0 1 = cc in omega arith
 
 pub returns-then-count-gt-CORRECTABLE : goal.returns-then-count-gt-CORRECTABLE
 returns-then-count-gt-CORRECTABLE g c =
-    too_far g.met.F.Field.lawful c.args.word.now c.args.fixed.now c.requires.0 c.requires.2 c.no-word.result c.no-word.ensures (omega (arith, c.distance-count.ensures, c.if-count-gt-CORRECTABLE.true))
+    too_far g.met.F.Field.lawful c.args.word.now c.args.fixed.now c.requires.word_len c.requires.by_index c.no_word.result c.no_word.ensures (omega (arith, c.distance-count.ensures, c.if-count-gt-CORRECTABLE.true))
 
-pub returns-then-not-is-zero-at-powers : goal.returns-then-not-is-zero-at-powers
-returns-then-not-is-zero-at-powers g c =
-    no_code_word g.met.F.Field.lawful c.args.word.now c.args.fixed.now c.requires.0 c.requires.2 c.no-word-then-not-is-zero-at-powers.result c.no-word-then-not-is-zero-at-powers.ensures
-    (λ h. true_not_false (sym (c.is-zero-at-powers.ensures.1 h) ∙ c.if-not-is-zero-at-powers.true))
+pub returns-then-not-is_zero_at_powers : goal.returns-then-not-is_zero_at_powers
+returns-then-not-is_zero_at_powers g c =
+    no_code_word g.met.F.Field.lawful c.args.word.now c.args.fixed.now c.requires.word_len c.requires.by_index c.no_word-then-not-is_zero_at_powers.result c.no_word-then-not-is_zero_at_powers.ensures
+    (λ h. true_not_false (sym (c.is_zero_at_powers.ensures.1 h) ∙ c.if-not-is_zero_at_powers.true))
 
 pub returns : goal.returns
 returns g c =
@@ -22,8 +22,8 @@ returns g c =
     let L = g.met.F.Field.lawful in
     let w : List ℕ = c.args.word.now in
     let v : List ℕ = c.args.fixed.now in
-    let e : c.copy-from-slice.new.self ≡ v = c.copy-from-slice.ensures.after in
-    let word = zero_word L w v c.requires.1 c.told-fixed c.fits-fixed (c.is-zero-at-powers.ensures.0 c.if-not-is-zero-at-powers.false) in
+    let e : c.copy_from_slice.new.self ≡ v = c.copy_from_slice.ensures.after in
+    let word = zero_word L w v c.requires.order_value c.told-fixed c.fits-fixed (c.is_zero_at_powers.ensures.0 c.if-not-is_zero_at_powers.false) in
     let near : Near A w v = record { word = word; close = omega (arith, c.distance-count.ensures, c.if-count-gt-CORRECTABLE.false) } in
-    accepted L w c.copy-from-slice.new.self c.distance-count.result c.requires.0 c.requires.1 (subst (Near A w) (sym e) near)
+    accepted L w c.copy_from_slice.new.self c.distance-count.result c.requires.word_len c.requires.order_value (subst (Near A w) (sym e) near)
     (c.distance-count.ensures ∙ ap (λ (z : List ℕ). differ z w) (sym e))

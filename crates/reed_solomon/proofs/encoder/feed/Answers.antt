@@ -14,7 +14,7 @@ loop-i-preserved g c =
     let v = c.loop-i.invariant in (
       done_more (λ k. get_or (fed K ts r c.args.symbol) k 0) c.loop-i.register i c.sum.result (omega arith) v.0
           (c.sum.ensures ∙ ap₂ K.add (v.1 (i + 1) (omega arith)) (c.product.ensures ∙ ap (λ f. K.mul f (get_or ts i 0)) c.sum-factor.ensures)
-          ∙ sym (fed_at K ts r c.args.symbol i c.requires.0 (omega arith))),
+          ∙ sym (fed_at K ts r c.args.symbol i c.requires.tail_len (omega arith))),
       left_more c.loop-i.register r i c.sum.result v.1,
     )
 
@@ -25,6 +25,6 @@ returns g c =
     let r = c.args.register.now in
     let last = length r - 1 in
     let s : c.loop-i.i ≡ last = omega arith in
-    is_fed K ts r c.args.symbol _ c.requires.0 (simp length-set (omega arith))
+    is_fed K ts r c.args.symbol _ c.requires.tail_len (simp length-set (omega arith))
     (λ k u. done_more (λ k. get_or (fed K ts r c.args.symbol) k 0) c.loop-i.register last c.product-2.result (omega arith) (λ k l. c.loop-i.invariant.0 k (omega arith))
-    (c.product-2.ensures ∙ ap (λ f. K.mul f (get_or ts last 0)) c.sum-factor.ensures ∙ sym (fed_last K ts r c.args.symbol last c.requires.0 (omega arith))) k (omega arith))
+    (c.product-2.ensures ∙ ap (λ f. K.mul f (get_or ts last 0)) c.sum-factor.ensures ∙ sym (fed_last K ts r c.args.symbol last c.requires.tail_len (omega arith))) k (omega arith))

@@ -7,7 +7,7 @@ use Rattle.reed_solomon.proofs.encoder.generator.Goals as goal
 pub loop-k-preserved : goal.loop-k-preserved
 loop-k-preserved g c =
     let A = g.F.Field.ops in
-    let k = c.loop-k.-k in
+    let k = c.loop-k._k in
     let e : suc k ≡ k + 1 = omega arith in
     let v = c.loop-k.invariant in (
       next_power A g.met.F.Field.lawful c.args.first k _ _ _ c.product-x.ensures c.generator.ensures v.0,

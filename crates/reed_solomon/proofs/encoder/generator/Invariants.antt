@@ -6,4 +6,4 @@ use Rattle.reed_solomon.proofs.encoder.generator.Given as goal
 abbrev pub invariant-loop-k : goal.invariant-loop-k
 invariant-loop-k g l =
     let A = g.F.Field.ops in
-    (l.x ≡ A.pow (l.first + l.-k)) × (l.g ≡ generator (plain A) (λ k. A.pow (l.first + k)) l.count l.-k)
+    (l.x ≡ A.pow (l.first + l._k)) × (l.g ≡ generator (plain A) (λ k. A.pow (l.first + k)) l.count l._k)

@@ -12,6 +12,6 @@ behind m rest ys n k en ek =
 
 pub returns : goal.returns
 returns c =
-    let m = c.copy-from-slice.new.self in
-    behind m _ _ _ _ (sym (ap length c.copy-from-slice.ensures.after)) refl
-    ∙ ap₂ ◌++◌ c.copy-from-slice.ensures.after c.copy-from-slice-2.ensures.after
+    let m = c.copy_from_slice.new.self in
+    behind m _ _ _ _ (sym (ap length c.copy_from_slice.ensures.after)) refl
+    ∙ ap₂ ◌++◌ c.copy_from_slice.ensures.after c.copy_from_slice-2.ensures.after

@@ -38,4 +38,4 @@ returns g c =
     ap (λ (t : State ℕ). t.con) c.loop-n.invariant.3 ∙ ap₂ (λ w n. (wide K w (λ k. get_or c.args.s.now k 0) n).con) lc e
 
 pub advance-len-requires : goal.advance-len-requires
-advance-len-requires g c = (c.loop-n-test.true, omega (arith, c.requires.few), c.loop-n.invariant.0, omega arith)
+advance-len-requires g c = record { n_in_bounds = c.loop-n-test.true; n_bound = omega (arith, c.requires.few); len_le_n = c.loop-n.invariant.0; rep_len = omega arith }

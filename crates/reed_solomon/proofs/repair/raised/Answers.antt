@@ -6,5 +6,5 @@ use Rattle.reed_solomon.proofs.repair.raised.Goals as goal
 pub loop-i-preserved : goal.loop-i-preserved
 loop-i-preserved g c =
     let K = plain g.F.Field.ops in
-    let e : suc c.loop-i.-i ≡ c.loop-i.-i + 1 = omega arith in
+    let e : suc c.loop-i._i ≡ c.loop-i._i + 1 = omega arith in
     c.product-value.ensures ∙ ap (K.mul c.args.x) c.loop-i.invariant ∙ ap (power K c.args.x) e

@@ -15,28 +15,28 @@ zeros xs k e = ap length e ∙ length-replicate k 0
 
 pub connect-requires : goal.connect-requires
 connect-requires g c =
-    let lc = zeros c.args.con.now (suc (length c.args.found.now)) c.requires.5 in
+    let lc = zeros c.args.con.now (suc (length c.args.found.now)) c.requires.con_value in
     record {
-      few = c.requires.1;
-      wide = omega (arith, lc, c.requires.2);
-      con = c.requires.5 ∙ ap (λ k. replicate k 0) (sym lc);
-      rep = c.requires.6 ∙ ap (λ k. replicate k 0) (sym lc);
+      few = c.requires.s_len_bound;
+      wide = omega (arith, lc, c.requires.found_nonzero);
+      con = c.requires.con_value ∙ ap (λ k. replicate k 0) (sym lc);
+      rep = c.requires.rep_value ∙ ap (λ k. replicate k 0) (sym lc);
     }
 
-pub returns-in-default : goal.returns-in-default
-returns-in-default g c =
+pub returns-in_default : goal.returns-in_default
+returns-in_default g c =
     let A = g.F.Field.ops in
     let K = plain A in
     let w : List ℕ = c.args.word.now in
     let s : List ℕ = c.args.s.now in
     let l : ℕ = length c.args.found.now in
     let X : ℕ → ℕ = λ p. A.pow (length w - suc p) in
-    let lc = zeros c.args.con.now (suc l) c.requires.5 in
+    let lc = zeros c.args.con.now (suc l) c.requires.con_value in
     let con : c.connect.new.con ≡ (wide K (suc l) (λ k. get_or s k 0) (length s)).con = c.connect.ensures ∙ ap (λ k. (wide K k (λ k. get_or s k 0) (length s)).con) lc in
     λ nm bw es e cw few half.
     let Near-word = near g.met.F.Field.lawful (length w) c.args.first (length s) l nm w e s refl bw cw few half refl
     (λ k u. ap (λ (z : List ℕ). get_or z k 0) es ∙ values_at A c.args.first (length s) w k u) in
-    let many : l < length (located K X c.connect.new.con (from 0 (length w))) = c.in-default.ensures in
+    let many : l < length (located K X c.connect.new.con (from 0 (length w))) = c.in_default.ensures in
     absurd (let z : ⊥ = omega (arith, Near-word.0, many, ap (λ (z : List ℕ). length (located K X z (from 0 (length w)))) con) in z)
 
 pub repair-requires : goal.repair-requires
@@ -49,11 +49,11 @@ repair-requires g c =
     let all : take (length F - k) (drop k F) ≡ drop k F = take_all (length F - k) (drop k F) few in
     let lp : length (take (length F - k) (drop k F)) ≡ length F - k = ap length all ∙ length-drop k F in
     let n0 : ℕ = length (take (length F - k) (drop k F)) in
-    let n : ℕ = length c.args.word.now in (
-      length-take-le (n0 - 0) c.args.s.now (omega (arith, c.requires.3)) ∙ omega arith,
-      length-take-le (n0 - 0) c.args.t.now (omega (arith, c.requires.4)) ∙ sym (length-take-le (n0 - 0) c.args.s.now (omega (arith, c.requires.3))),
-      λ i u. subst (λ (z : List ℕ). i < length z → get_or z i 0 < n) (sym (all ∙ h.1)) (λ v. located_below (plain A) (λ p. A.pow (n - suc p)) c.connect.new.con n 0 n i (omega arith) v) u,
-    )
+    let n : ℕ = length c.args.word.now in record {
+      sums_len = length-take-le (n0 - 0) c.args.s.now (omega (arith, c.requires.found_in_bounds)) ∙ omega arith;
+      t_len = length-take-le (n0 - 0) c.args.t.now (omega (arith, c.requires.t_len)) ∙ sym (length-take-le (n0 - 0) c.args.s.now (omega (arith, c.requires.found_in_bounds)));
+      by_index = λ i u. subst (λ (z : List ℕ). i < length z → get_or z i 0 < n) (sym (all ∙ h.1)) (λ v. located_below (plain A) (λ p. A.pow (n - suc p)) c.connect.new.con n 0 n i (omega arith) v) u;
+    }
 
 pub returns : goal.returns
 returns g c =
@@ -63,7 +63,7 @@ returns g c =
     let s : List ℕ = c.args.s.now in
     let l : ℕ = length c.args.found.now in
     let X : ℕ → ℕ = λ p. A.pow (length w - suc p) in
-    let lc = zeros c.args.con.now (suc l) c.requires.5 in
+    let lc = zeros c.args.con.now (suc l) c.requires.con_value in
     let con : c.connect.new.con ≡ (wide K (suc l) (λ k. get_or s k 0) (length s)).con = c.connect.ensures ∙ ap (λ k. (wide K k (λ k. get_or s k 0) (length s)).con) lc in
     let F : List ℕ = c.locate.new.found in
     let k : ℕ = c.in-Some.start in

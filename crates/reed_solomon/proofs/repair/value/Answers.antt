@@ -16,7 +16,7 @@ loop-p-preserved g c =
     elim c.if-p-q.branch [
       | then-p-q w ↦
           valued_out K X c.args.q ps c.loop-p.p-index c.loop-p.t _ c.loop-p.den _ _ c.loop-p-test.true c.loop-p.invariant w.if-p-q.true
-          (w.t-is ∙ w.take-out.ensures ∙ ap (λ (y : ℕ). taken K y c.loop-p.t) w.locator-y.ensures)
+          (w.t-is ∙ w.take_out.ensures ∙ ap (λ (y : ℕ). taken K y c.loop-p.t) w.locator-y.ensures)
           (w.den-is ∙ w.product-den.ensures ∙ ap (λ (y : ℕ). A.mul y c.loop-p.den) (w.sum.ensures ∙ ap₂ A.add w.locator-y.ensures c.locator-x.ensures))
       | else-p-q w ↦
           valued_same K X c.args.q ps c.loop-p.p-index c.loop-p.t _ c.loop-p.den _ _ c.loop-p-test.true c.loop-p.invariant w.if-p-q.false w.t-is w.den-is
@@ -29,4 +29,4 @@ returns g c =
     let X : ℕ → ℕ = λ j. A.pow (c.args.n - suc j) in
     c.product.ensures ∙ ap (A.mul (get_or c.loop-p.t 0 0)) c.inverse.ensures
     ∙ sym (at_drop_all (λ ns. valued K X c.args.q ns c.loop-p.t c.loop-p.den) c.args.places.now c.loop-p.p-index c.loop-p-test.false) ∙ c.loop-p.invariant
-    ∙ ap₂ (valued K X c.args.q c.args.places.now) c.copy-from-slice.ensures.after (c.raised-den.ensures ∙ ap (λ (x : ℕ). power K x c.args.first) c.locator-x.ensures)
+    ∙ ap₂ (valued K X c.args.q c.args.places.now) c.copy_from_slice.ensures.after (c.raised-den.ensures ∙ ap (λ (x : ℕ). power K x c.args.first) c.locator-x.ensures)

@@ -20,7 +20,7 @@ pub loop-i-preserved : goal.loop-i-preserved
 loop-i-preserved c =
     let a = c.args.a in
     let b = c.args.b in
-    let i = c.loop-i.-i in
+    let i = c.loop-i._i in
     let v = c.loop-i.invariant in
     let fits : a < 256 = search rules in
     let sum : c.if-rest-eq1.sum ≡ times 8 285 a (b % 2 ^ (i + 1)) =
@@ -37,6 +37,6 @@ loop-i-preserved c =
 
 pub returns : goal.returns
 returns c =
-    let end : c.loop-i.-i ≡ 8 = omega arith in
+    let end : c.loop-i._i ≡ 8 = omega arith in
     let fits : c.args.b < 256 = search rules in
     c.loop-i.invariant.2 ∙ ap (λ (i : ℕ). times 8 285 c.args.a (c.args.b % 2 ^ i)) end ∙ ap (times 8 285 c.args.a) (mod-eq_of_lt fits)

@@ -11,9 +11,9 @@ loop-i-init c = refl
 pub loop-i-preserved : goal.loop-i-preserved
 unfolding raised
 loop-i-preserved c =
-    c.shifted-product-value.ensures ∙ ap (times 8 285 c.args.a) c.loop-i.invariant ∙ ap (raised 8 285 c.args.a) (sym (add-one c.loop-i.-i))
+    c.shifted_product-value.ensures ∙ ap (times 8 285 c.args.a) c.loop-i.invariant ∙ ap (raised 8 285 c.args.a) (sym (add-one c.loop-i._i))
 
 pub returns : goal.returns
 returns c =
-    let end : c.loop-i.-i ≡ 254 = omega arith in
+    let end : c.loop-i._i ≡ 254 = omega arith in
     c.loop-i.invariant ∙ ap (raised 8 285 c.args.a) end ∙ sym (inv_is 8 285 (lit≤ tt) sound_256 c.args.a (search rules))

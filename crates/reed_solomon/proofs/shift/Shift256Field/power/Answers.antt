@@ -10,10 +10,10 @@ loop-i-init c = refl
 
 pub loop-i-preserved : goal.loop-i-preserved
 unfolding raised
-loop-i-preserved c = c.doubled-value.ensures ∙ ap (times 8 285 2) c.loop-i.invariant ∙ ap (raised 8 285 2) (sym (add-one c.loop-i.-i))
+loop-i-preserved c = c.doubled-value.ensures ∙ ap (times 8 285 2) c.loop-i.invariant ∙ ap (raised 8 285 2) (sym (add-one c.loop-i._i))
 
 pub returns : goal.returns
 unfolding pow
 returns c =
-    let end : c.loop-i.-i ≡ c.args.e % 255 = omega arith in
+    let end : c.loop-i._i ≡ c.args.e % 255 = omega arith in
     c.loop-i.invariant ∙ ap (raised 8 285 2) end ∙ pow_mod 8 285 (lit≤ tt) sound_256 c.args.e

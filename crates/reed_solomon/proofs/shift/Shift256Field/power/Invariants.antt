@@ -3,4 +3,4 @@ use Rattle.coding_theory.specs.Galois.{raised}
 use Rattle.reed_solomon.proofs.shift.Shift256Field.power.Given as goal
 
 abbrev pub invariant-loop-i : goal.invariant-loop-i
-invariant-loop-i l = l.value ≡ raised 8 285 2 l.-i
+invariant-loop-i l = l.value ≡ raised 8 285 2 l._i

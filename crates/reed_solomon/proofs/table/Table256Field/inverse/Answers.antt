@@ -9,5 +9,5 @@ returns-then-a-eq0 c = sym (ap (inv 8 285) c.if-a-eq0.true ∙ bytes_lawful.inv_
 
 pub returns-else-a-eq0 : goal.returns-else-a-eq0
 returns-else-a-eq0 c =
-    c.power-at.ensures ∙ inv_pow 8 285 (lit≤ tt) sound_256 c.exponent-of.result c.exponent-of.ensures.0
-    ∙ ap (inv 8 285) c.exponent-of.ensures.1
+    c.power_at.ensures ∙ inv_pow 8 285 (lit≤ tt) sound_256 c.exponent_of.result c.exponent_of.ensures.0
+    ∙ ap (inv 8 285) c.exponent_of.ensures.1

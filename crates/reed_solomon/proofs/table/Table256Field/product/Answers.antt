@@ -11,5 +11,5 @@ returns-then-b-eq0 c =
 
 pub returns-else-b-eq0 : goal.returns-else-b-eq0
 returns-else-b-eq0 c =
-    c.power-at.ensures ∙ mul_pow 8 285 (lit≤ tt) sound_256 c.exponent-of.result c.exponent-of-else-b-eq0.result
-    ∙ ap₂ (mul 8 285) c.exponent-of.ensures.1 c.exponent-of-else-b-eq0.ensures.1
+    c.power_at.ensures ∙ mul_pow 8 285 (lit≤ tt) sound_256 c.exponent_of.result c.exponent_of-else-b-eq0.result
+    ∙ ap₂ (mul 8 285) c.exponent_of.ensures.1 c.exponent_of-else-b-eq0.ensures.1
