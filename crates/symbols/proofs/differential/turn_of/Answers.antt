@@ -14,6 +14,6 @@ pub returns-in-2 : goal.returns-in-2
 unfolding bits
 returns-in-2 c = search rules
 
-pub returns-in-default : goal.returns-in-default
+pub returns-in_default : goal.returns-in_default
 unfolding bits
-returns-in-default c = grind (arith, c.requires, c.in-default)
+returns-in_default c = grind (arith, c.requires, c.in_default)

@@ -5,5 +5,5 @@ empty : (xs : List ℕ) → length xs ≡ 0 → xs ≡ []
 empty [] e = refl
 empty (x ∷ xs) e = absurd (omega arith)
 
-pub returns-then-is-empty : goal.returns-then-is-empty
-returns-then-is-empty c = empty c.args.line.now (eqb-true _ _ (sym c.is-empty.ensures ∙ c.if-is-empty.true))
+pub returns-then-is_empty : goal.returns-then-is_empty
+returns-then-is_empty c = empty c.args.line.now (eqb-true _ _ (sym c.is_empty.ensures ∙ c.if-is_empty.true))

@@ -10,5 +10,5 @@ returns g c =
     record {
       delays = series_same (r.delays.0 ∙ a.delays) (r.delays.1 ∙ b.delays);
       span = omega (arith, r.span.0, a.span, r.span.1, b.span);
-      empty = both_silent (g.Receiving-as-DelayLine-1.delay c.new.result.second) 0 r.empty.0 r.empty.1;
+      empty = both_silent (g.A.Receiving.DelayLine.delay c.new.result.second) 0 r.empty.0 r.empty.1;
     }

@@ -29,15 +29,15 @@ pub joined-held-requires : goal.joined-held-requires
 joined-held-requires c =
     let r = c.args.self.now in
     let m = c.bits-m.result in
-    let y = tuple_is m r.turn c.args.symbol c.turn-at-turn.result c.with-turn-tuple.result c.turn-at-turn.ensures c.with-turn-tuple.ensures in (
+    let y = tuple_is m r.turn c.args.symbol c.turn_at-turn.result c.with_turn-tuple.result c.turn_at-turn.ensures c.with_turn-tuple.ensures in (
       r.few.0,
       r.few.1,
       omega (arith, c.bits-m.ensures, r.mapping.known.1),
       subst (λ (n : ℕ). n < 2 ^ m) (sym y) (tuple_lt m r.turn c.args.symbol (omega (arith, c.bits-m.ensures, r.mapping.known.0))),
     )
 
-pub overflow-cast-result : goal.overflow-cast-result
-overflow-cast-result c =
+pub overflow_cast-result : goal.overflow_cast-result
+overflow_cast-result c =
     let n = c.args.self.now.count in
     let m = c.bits-m.result in
     let z = c.joined-held.result in
@@ -51,9 +51,9 @@ returns-then-count-lt8 c =
     let m = c.bits-m.result in
     let x = c.args.symbol in
     let z = c.joined-held.result in
-    let u = c.turn-at-turn.result in
-    let eu = c.turn-at-turn.ensures in
-    let ez = joined_is m r.held r.turn x u c.with-turn-tuple.result z eu c.with-turn-tuple.ensures c.joined-held.ensures.value in
+    let u = c.turn_at-turn.result in
+    let eu = c.turn_at-turn.ensures in
+    let ez = joined_is m r.held r.turn x u c.with_turn-tuple.result z eu c.with_turn-tuple.ensures c.joined-held.ensures.value in
     let two : 2 ≤ m = omega (arith, c.bits-m.ensures, r.mapping.known.0) in
     let is = heard_few m x r.held r.count r.turn z u two ez eu c.if-count-lt8.true
     ∙ taken_is m r.mapping.bits x (incoming_of r) c.bits-m.ensures r.mapping.known.1 c.if-symbol-m.false in
@@ -66,9 +66,9 @@ returns c =
     let m = c.bits-m.result in
     let x = c.args.symbol in
     let z = c.joined-held.result in
-    let u = c.turn-at-turn.result in
-    let eu = c.turn-at-turn.ensures in
-    let ez = joined_is m r.held r.turn x u c.with-turn-tuple.result z eu c.with-turn-tuple.ensures c.joined-held.ensures.value in
+    let u = c.turn_at-turn.result in
+    let eu = c.turn_at-turn.ensures in
+    let ez = joined_is m r.held r.turn x u c.with_turn-tuple.result z eu c.with_turn-tuple.ensures c.joined-held.ensures.value in
     let two : 2 ≤ m = omega (arith, c.bits-m.ensures, r.mapping.known.0) in
     let left : ℕ = r.count + m - 8 in
     let is = heard_full m x r.held r.count r.turn z u two ez eu left (omega (arith, c.if-count-lt8.false))

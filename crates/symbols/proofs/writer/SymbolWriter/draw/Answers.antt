@@ -11,35 +11,34 @@ pub window-tuple-requires : goal.window-tuple-requires
 unfolding outgoing_of
 window-tuple-requires c =
     let w = c.args.self.now in
-    let left = undrawn_length w.line w.next w.held.0 in (
-      omega (arith, c.bits-m.ensures, w.mapping.known.1),
-      omega (arith, c.undrawn-bits.ensures, left, c.if-undrawn-bits-m.false, w.held.0, c.bits-m.ensures, w.mapping.known.0),
-    )
+    let left = undrawn_length w.line w.next w.held.0 in (record {
+      m_bound = omega (arith, c.bits-m.ensures, w.mapping.known.1);
+      m_bound_2 = omega (arith, c.undrawn_bits.ensures, left, c.if-undrawn_bits-m.false, w.held.0, c.bits-m.ensures, w.mapping.known.0);
+    })
 
-pub turn-at-requires : goal.turn-at-requires
+pub turn_at-requires : goal.turn_at-requires
 unfolding outgoing_of
-turn-at-requires c =
+turn_at-requires c =
     let w = c.args.self.now in
     let m = c.bits-m.result in
     let rest = drop w.next (octets w.line) in
-    let le : m ≤ length rest = omega (arith, c.undrawn-bits.ensures, c.if-undrawn-bits-m.false) in (
+    let le : m ≤ length rest = omega (arith, c.undrawn_bits.ensures, c.if-undrawn_bits-m.false) in (
       omega (arith, c.bits-m.ensures, w.mapping.known.0),
       omega (arith, c.bits-m.ensures, w.mapping.known.1),
       subst (λ (y : ℕ). y < 2 ^ m) (sym c.window-tuple.ensures) (number_lt m (take m rest) (length-take-le m rest le)),
     )
 
-pub invariant-of-self : goal.invariant-of-self
+pub invariant_of-self : goal.invariant_of-self
 unfolding outgoing_of
-invariant-of-self c =
+invariant_of-self c =
     let w = c.args.self.now in
-    let left = undrawn_length w.line w.next w.held.0 in (
-      (
+    let left = undrawn_length w.line w.next w.held.0 in record {
+      held = (
         w.held.0,
-        omega (arith, c.undrawn-bits.ensures, left, c.if-undrawn-bits-m.false, c.bits-m.ensures, w.mapping.known.0),
+        omega (arith, c.undrawn_bits.ensures, left, c.if-undrawn_bits-m.false, c.bits-m.ensures, w.mapping.known.0),
         omega arith,
-      ),
-      tt,
-    )
+      );
+    }
 
 pub returns : goal.returns
 unfolding outgoing_of
@@ -48,12 +47,12 @@ returns c =
     let m = c.bits-m.result in
     let o = outgoing_of w in
     let e : m ≡ w.mapping.bits = c.bits-m.ensures in
-    let le : m ≤ length (drop w.next (octets w.line)) = omega (arith, c.undrawn-bits.ensures, c.if-undrawn-bits-m.false) in
-    let s = (c.turn-at.result + w.turn) % 4 in
-    let is = draw_is m o c.window-tuple.result c.turn-at.result c.with-turn.result (omega (arith, e, w.mapping.known.0)) le
-    c.window-tuple.ensures c.turn-at.ensures c.with-turn.ensures in
+    let le : m ≤ length (drop w.next (octets w.line)) = omega (arith, c.undrawn_bits.ensures, c.if-undrawn_bits-m.false) in
+    let s = (c.turn_at.result + w.turn) % 4 in
+    let is = draw_is m o c.window-tuple.result c.turn_at.result c.with_turn.result (omega (arith, e, w.mapping.known.0)) le
+    c.window-tuple.ensures c.turn_at.ensures c.with_turn.ensures in
     record {
-      symbol = subst (λ (k : ℕ). Some c.with-turn.result ≡ drawn k o) e is.0;
+      symbol = subst (λ (k : ℕ). Some c.with_turn.result ≡ drawn k o) e is.0;
       model =
           ap (λ (l : List Bool). record { undrawn = l; turn = s }) (sym (drop-drop m w.next (octets w.line)))
           ∙ is.1 ∙ ap (λ (k : ℕ). after_draw k o) e;

@@ -11,5 +11,5 @@ laid (x ∷ xs) ys v e =
 
 pub returns : goal.returns
 returns c =
-    laid c.args.line.now c.copy-from-slice.new.self (get_or c.args.line.now 204 0) c.requires.0
-    ∙ ap (λ (r : List ℕ). get_or c.args.line.now 204 0 ∷ r) c.copy-from-slice.ensures.after
+    laid c.args.line.now c.copy_from_slice.new.self (get_or c.args.line.now 204 0) c.requires.line_len
+    ∙ ap (λ (r : List ℕ). get_or c.args.line.now 204 0 ∷ r) c.copy_from_slice.ensures.after

@@ -10,5 +10,5 @@ returns c =
     let m = c.args.m in
     let b : ℕ = 16 - s % 8 - m in
     let small : (k : ℕ) → get_or xs k 0 < 256 = λ k. search rules in
-    ap₂ (λ (p q : ℕ). p / 2 ^ b % q) (ap₂ (λ (x y : ℕ). x * 256 + y) c.byte-at.ensures c.byte-at-2.ensures) (one_shl m 32 (omega (arith, c.requires.0)))
-    ∙ window_number xs s m b small (omega (arith, c.requires.0)) c.requires.1
+    ap₂ (λ (p q : ℕ). p / 2 ^ b % q) (ap₂ (λ (x y : ℕ). x * 256 + y) c.byte_at.ensures c.byte_at-2.ensures) (one_shl m 32 (omega (arith, c.requires.m_bound)))
+    ∙ window_number xs s m b small (omega (arith, c.requires.m_bound)) c.requires.m_bound_2
