@@ -5,7 +5,7 @@ use Rattle.delays.proofs.tally.there_and_back.Goals as goal
 pub returns : goal.returns
 returns g c =
     let l = g.S.Scheme.spans c.args.scheme.now in
-    let late : c.min-late.result ≡ min (204 * l) 8160 = omega (arith, c.min-late.ensures, c.lag-of.ensures) in
+    let late : c.min-late.result ≡ min (204 * l) 8160 = omega (arith, c.min-late.ensures, c.lag_of.ensures) in
     let back : c.agreeing-back.result ≡ 8160 - 204 * l =
-    c.agreeing-back.ensures.count ∙ returned c.number.new.bytes c.round-trip.new.bytes l 8160 c.min-late.result _ c.round-trip.ensures c.number.auto.bytes late (omega arith) in
+    c.agreeing-back.ensures.count ∙ returned c.number.new.bytes c.round_trip.new.bytes l 8160 c.min-late.result _ c.round_trip.ensures c.number.auto.bytes late (omega arith) in
     record { back = back; wrong = omega arith }

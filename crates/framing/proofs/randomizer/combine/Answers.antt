@@ -9,7 +9,7 @@ loop-b-init c = upto_one c.args.position c.args.packet.now
 pub loop-b-preserved : goal.loop-b-preserved
 loop-b-preserved c =
     upto_more c.args.position c.loop-b.b _ c.args.packet.now c.loop-b.packet (omega arith) (omega arith) (omega arith)
-    c.loop-b.invariant (ap (bit_xor (get_or c.loop-b.packet c.loop-b.b 0)) c.mask-byte.ensures)
+    c.loop-b.invariant (ap (bit_xor (get_or c.loop-b.packet c.loop-b.b 0)) c.mask_byte.ensures)
 
 pub returns : goal.returns
 returns c =

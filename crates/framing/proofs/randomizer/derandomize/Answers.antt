@@ -4,4 +4,4 @@ use Rattle.framing.proofs.randomizer.derandomize.Goals as goal
 
 pub returns : goal.returns
 unfolding restored
-returns c = c.put-first.ensures ∙ ap (λ (q : List ℕ). set q 0 0x47) c.combine.ensures
+returns c = c.put_first.ensures ∙ ap (λ (q : List ℕ). set q 0 0x47) c.combine.ensures

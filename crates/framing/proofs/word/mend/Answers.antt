@@ -17,30 +17,30 @@ returns-then-word-ne204 c =
     let a = answered w _ (mended_short w c.if-word-ne204.true) in
     record { answer = a.0; buffer = a.1; misaligned = misaligned_unread w }
 
-pub returns-in-err-count : goal.returns-in-err-count
-returns-in-err-count c =
+pub returns-in_err-count : goal.returns-in_err-count
+returns-in_err-count c =
     let w : List ℕ = c.args.word.now in
-    let e : List ℕ = c.correct-bytes.new.word in
-    let q = c.correct-bytes.result in
-    let h : Corrected bytes w e q = subst (λ (z : List ℕ). Corrected bytes z e q) c.copy-from-slice.ensures.after c.correct-bytes.ensures.corrected in
-    let y = err_from_is_err_and c.from-residual.result c.from-residual.ensures.1 in
-    let a = answered w _ (mended_lost w e q c.if-word-ne204.false h c.in-err-count.field-0.0 c.in-err-count.was) in
+    let e : List ℕ = c.correct_bytes.new.word in
+    let q = c.correct_bytes.result in
+    let h : Corrected bytes w e q = subst (λ (z : List ℕ). Corrected bytes z e q) c.copy_from_slice.ensures.after c.correct_bytes.ensures.corrected in
+    let y = err_from_is_err_and c.from_residual.result c.from_residual.ensures.1 in
+    let a = answered w _ (mended_lost w e q c.if-word-ne204.false h c.in_err-count.field-0.0 c.in_err-count.was) in
     record { answer = y.1 ∙ ap Err y.2 ∙ a.0; buffer = a.1; misaligned = misaligned_unread w }
 
-pub returns-then-not-is-sync : goal.returns-then-not-is-sync
-returns-then-not-is-sync c =
+pub returns-then-not-is_sync : goal.returns-then-not-is_sync
+returns-then-not-is_sync c =
     let w : List ℕ = c.args.word.now in
-    let e : List ℕ = c.correct-bytes.new.word in
-    let q = c.correct-bytes.result in
-    let h : Corrected bytes w e q = subst (λ (z : List ℕ). Corrected bytes z e q) c.copy-from-slice.ensures.after c.correct-bytes.ensures.corrected in
-    let a = answered w _ (mended_sync w e q c.if-word-ne204.false h c.in-ok-count.count c.in-ok-count.was (sym c.is-sync.ensures ∙ c.if-not-is-sync.true)) in
+    let e : List ℕ = c.correct_bytes.new.word in
+    let q = c.correct_bytes.result in
+    let h : Corrected bytes w e q = subst (λ (z : List ℕ). Corrected bytes z e q) c.copy_from_slice.ensures.after c.correct_bytes.ensures.corrected in
+    let a = answered w _ (mended_sync w e q c.if-word-ne204.false h c.in_ok-count.count c.in_ok-count.was (sym c.is_sync.ensures ∙ c.if-not-is_sync.true)) in
     record { answer = a.0; buffer = a.1; misaligned = misaligned_unread w }
 
 pub returns : goal.returns
 returns c =
     let w : List ℕ = c.args.word.now in
-    let e : List ℕ = c.correct-bytes.new.word in
-    let q = c.correct-bytes.result in
-    let h : Corrected bytes w e q = subst (λ (z : List ℕ). Corrected bytes z e q) c.copy-from-slice.ensures.after c.correct-bytes.ensures.corrected in
-    let a = answered w _ (mended_read w e q c.if-word-ne204.false h c.in-ok-count.count c.in-ok-count.was (sym c.is-sync.ensures ∙ c.if-not-is-sync.false)) in
-    record { answer = a.0; buffer = c.copy-from-slice-2.ensures.after ∙ a.1; misaligned = misaligned_unread w }
+    let e : List ℕ = c.correct_bytes.new.word in
+    let q = c.correct_bytes.result in
+    let h : Corrected bytes w e q = subst (λ (z : List ℕ). Corrected bytes z e q) c.copy_from_slice.ensures.after c.correct_bytes.ensures.corrected in
+    let a = answered w _ (mended_read w e q c.if-word-ne204.false h c.in_ok-count.count c.in_ok-count.was (sym c.is_sync.ensures ∙ c.if-not-is_sync.false)) in
+    record { answer = a.0; buffer = c.copy_from_slice-2.ensures.after ∙ a.1; misaligned = misaligned_unread w }

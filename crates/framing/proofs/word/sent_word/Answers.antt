@@ -12,6 +12,6 @@ returns c =
     let p : List ℕ = c.args.packet.now in
     let m : List ℕ = c.randomize.new.packet in
     let is : m ≡ randomized g p = c.randomize.ensures in
-    encoded_is_coded m c.encode-bytes.result (ap length is ∙ length_randomized g p ∙ c.told-packet)
-    (λ k. subst (λ (z : List ℕ). get_or z k 0 < 256) (sym is) (randomized_below g p c.fits-packet k)) c.encode-bytes.ensures
+    encoded_is_coded m c.encode_bytes.result (ap length is ∙ length_randomized g p ∙ c.told-packet)
+    (λ k. subst (λ (z : List ℕ). get_or z k 0 < 256) (sym is) (randomized_below g p c.fits-packet k)) c.encode_bytes.ensures
     ∙ ap coded is
