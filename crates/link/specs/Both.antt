@@ -1,6 +1,7 @@
 -- Both ends of a link: the plan that they share, and what a call on them delivers, whatever calls came before.
 use Rattle.std.specs.Prelude.{◌≡◌, ℕ, ◌<◌, ◌≤◌, List, [], ◌∷◌, ◌++◌, length, slice_index, slice_index_or}
 use Rattle.delay_line.specs.Line.{Undoes}
+use Rattle.delay_line.specs.declared.line.DelayLine.{Ghosts}
 use Rattle.link_theory.specs.Delivery.{NoBegin, Since, since, damage, Exists, Delivered}
 use Rattle.link_theory.specs.Receiver.{fresh_receiver}
 use Rattle.link_theory.specs.Runs.{Plan, Call, Ends, Entry, called, ran, log, collected_in}
@@ -10,7 +11,7 @@ use Rattle.link.specs.Models.{sender_of, receiver_of}
 use Rattle.link.specs.declared.both.Link.{Link}
 
 -- the bits to a symbol, the delays of both delay lines, and the lag of the receiver's
-abbrev pub plan_of : {A B : Type 0} → (A → ℕ → ℕ) → (B → ℕ → ℕ) → (B → ℕ) → Link A B → Plan
+abbrev pub plan_of : {A B : Type 0} {a : Ghosts A} {b : Ghosts B} → (A → ℕ → ℕ) → (B → ℕ → ℕ) → (B → ℕ) → Link A B a b → Plan
 plan_of out back frames l = record {
   width = l.sender.writer.mapping.bits;
   out = out l.sender.half.line;
@@ -19,7 +20,7 @@ plan_of out back frames l = record {
 }
 
 -- the models of both ends
-abbrev pub ends_of : {A B : Type 0} → (A → ℕ → ℕ → ℕ) → (B → ℕ → ℕ → ℕ) → Link A B → Ends
+abbrev pub ends_of : {A B : Type 0} {a : Ghosts A} {b : Ghosts B} → (A → ℕ → ℕ → ℕ) → (B → ℕ → ℕ → ℕ) → Link A B a b → Ends
 ends_of ahead behind l = record { sender = sender_of ahead l.sender; receiver = receiver_of behind l.receiver }
 
 -- the delay lines belong together: with equal lags, which can be told, the receiving delays undo the sending ones

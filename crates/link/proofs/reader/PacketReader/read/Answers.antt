@@ -10,7 +10,7 @@ returns-in-Ok c =
     let g : ℕ = c.in-Ok.position in
     let h = c.in-Ok.ensures in
     record {
-      outcome = placed_packet c.args.self.now.frame g c.in-Ok.count c.packet-of.result w.buffer h.within
-          (c.packet-of.ensures ∙ ap (λ (z : List ℕ). restored (g % 8) (take 188 z)) h.buffer) c.args.self.now.group.expected w.answer h.placed;
+      outcome = placed_packet c.args.self.now.frame g c.in-Ok.count c.packet_of.result w.buffer h.within
+          (c.packet_of.ensures ∙ ap (λ (z : List ℕ). restored (g % 8) (take 188 z)) h.buffer) c.args.self.now.group.expected w.answer h.placed;
       reader = search rules;
     }

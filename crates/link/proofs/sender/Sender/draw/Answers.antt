@@ -3,5 +3,5 @@ use Rattle.link.proofs.sender.Sender.draw.Goals as goal
 
 pub returns : goal.returns
 returns g c =
-    let h = c.next-symbol.ensures in
+    let h = c.next_symbol.ensures in
     record { answer = h.answer; sender = h.sender; settings = h.settings; symbols = symbols_of_packets }
