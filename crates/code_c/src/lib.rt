@@ -46,7 +46,7 @@ pub extern "C" fn bethlyfor_mend(word: &mut [u8]) -> u32
     ensures misaligned { MisalignedUnread word.old }
 {
     match mend(word) {
-        Ok(count) => count as u32,
+        Ok(wrong) => wrong as u32,
         Err(refusal) => refusal.number(),
     }
 }
