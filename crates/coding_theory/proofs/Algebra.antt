@@ -1,5 +1,5 @@
 -- Laws that follow in any field of characteristic two.
-use Rattle.std.proofs.Common.{◌≡◌, ℕ, zero, suc, ◌+◌, ◌<◌, ◌≤◌, List, [], ◌∷◌, map, sym, refl, ap, ◌∙◌, ap₂}
+use Rattle.std.proofs.Common.{◌≡◌, ℕ, zero, suc, List, [], ◌∷◌, map, sym, refl, ap, ◌∙◌, ap₂}
 use Rattle.coding_theory.specs.Algebra.{Ops, Laws}
 use Rattle.coding_theory.specs.Words.{All, power, sum}
 

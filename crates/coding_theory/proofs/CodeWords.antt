@@ -1,17 +1,17 @@
 -- Code words: what is known of one, the zero word, and the check symbols of a message.
-use Rattle.std.proofs.Common.{◌≡◌, ℕ, zero, suc, ◌+◌, ◌-◌, ◌<◌, ◌≤◌, List, [], ◌∷◌, ◌++◌, map, length, get_or, take, drop, replicate, sym, refl, ap, ◌∙◌, subst, ap₂, arith}
+use Rattle.std.proofs.Common.{◌≡◌, ℕ, zero, suc, ◌+◌, ◌-◌, ◌<◌, List, [], ◌∷◌, ◌++◌, map, length, get_or, drop, replicate, sym, refl, ap, ◌∙◌, subst, ap₂, arith}
 use mathlib.Core.Path.{fun_ext}
 use Rattle.std.proofs.lemmas.List.{length-append, length-replicate}
 use Rattle.coding_theory.specs.Field.{Arithmetic, Lawful}
-use Rattle.coding_theory.specs.Algebra.{Ops, Laws, plain}
-use Rattle.coding_theory.specs.Words.{All, upto, power, sum, horner, differ}
+use Rattle.coding_theory.specs.Algebra.{Ops, plain}
+use Rattle.coding_theory.specs.Words.{All, upto, power, sum, horner}
 use Rattle.coding_theory.specs.Code.{CodeWord, ValueIsSum, LightIsZero, UniqueChecks}
 use Rattle.coding_theory.specs.Register.{mixed, extended, generator, moved, fed, divided, checks}
 use Rattle.coding_theory.proofs.Algebra.{power_not_o}
 use Rattle.coding_theory.proofs.Values.{horner_value}
 use Rattle.coding_theory.proofs.Places.{at, all_from}
 use Rattle.coding_theory.proofs.Homomorphism.{Hom, power_hom, sum_hom, horner_hom, map_append}
-use Rattle.coding_theory.proofs.Elements.{Element, same, field, laws, code, hom, lift, back, length_lift, at_lift, generator as alpha-element, alpha_not_zero, pow_lift, horner_lift}
+use Rattle.coding_theory.proofs.Elements.{Element, field, laws, code, hom, lift, back, length_lift, at_lift, generator as alpha-element, alpha_not_zero, pow_lift}
 use Rattle.coding_theory.proofs.Differences.{differ_same_front}
 use Rattle.coding_theory.proofs.Distance.{minimum_distance}
 use Rattle.coding_theory.proofs.Register.{checks_roots, length_checks}

@@ -1,10 +1,10 @@
 -- Places are taken out of power sums one after the other, until one is left.
-use Rattle.std.proofs.Common.{◌≡◌, ℕ, zero, suc, ◌+◌, ◌-◌, ◌<◌, ◌≤◌, ◌⊎◌, List, [], ◌∷◌, length, get_or, sym, refl, ap, ◌∙◌, subst, ap₂, inl, inr, ⊎_elim, arith}
+use Rattle.std.proofs.Common.{◌≡◌, ℕ, zero, suc, ◌+◌, ◌<◌, ◌≤◌, ◌⊎◌, List, [], ◌∷◌, length, get_or, sym, refl, ap, ◌∙◌, subst, ap₂, inl, inr, ⊎_elim, arith}
 use native.Mathlib.Decide.{ℕ_discrete}
 use Rattle.coding_theory.specs.Algebra.{Ops, Laws}
 use Rattle.coding_theory.specs.Words.{All, Apart, power, sum, one_more}
 use Rattle.coding_theory.specs.Decoder.{taken, taken_unless, factor_unless, valued}
-use Rattle.coding_theory.proofs.Algebra.{ring, add_o, o_add, o_mul, mul_o, mul_i, mul_comm, add_self, equal_from_add, zero_from_mul, power_not_o}
+use Rattle.coding_theory.proofs.Algebra.{ring, add_o, o_add, o_mul, mul_o, mul_i, add_self, equal_from_add, zero_from_mul}
 use Rattle.coding_theory.proofs.Vandermonde.{psum, step}
 use Rattle.coding_theory.proofs.Places.{In}
 

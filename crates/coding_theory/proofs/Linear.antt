@@ -1,5 +1,5 @@
 -- Sums pass through the product of polynomials modulo p: two such functions that agree at each 2^i agree everywhere.
-use Rattle.std.proofs.Common.{◌≡◌, ℕ, zero, suc, ◌+◌, ◌-◌, ◌*◌, ◌/◌, ◌%◌, ◌^◌, ◌<◌, ◌≤◌, Bool, true, false, T, eqb, ltb, ◌⊎◌, sym, refl, ap, ◌∙◌, subst, ap₂, inl, inr, ⊎_elim, le_of_suc-le-suc, not-suc-le-zero, add-zero, mod-lt, zero-lt-suc, mul_comm, div-lt_iff_lt-mul, eq-or-lt_of_le, one-mul, pow-suc, mul-zero, zero-mul, arith, eqb→eq, ltb→lt, pow_pos, shr_lt}
+use Rattle.std.proofs.Common.{◌≡◌, ℕ, zero, suc, ◌+◌, ◌*◌, ◌/◌, ◌%◌, ◌^◌, ◌<◌, sym, refl, ap, ◌∙◌, subst, ap₂, le_of_suc-le-suc, not-suc-le-zero, add-zero, mod-lt, zero-lt-suc, mul_comm, div-lt_iff_lt-mul, one-mul, pow-suc, zero-mul, arith, pow_pos}
 use lib.Arith.{lt-one}
 use lib.Pow.{split}
 use lib.Bits.{bit_xor, xor_zero_r, xor_comm, xor_assoc, xor_self, xor_lt, xor_shr, xor_mod, xor_block, xor_shifted}

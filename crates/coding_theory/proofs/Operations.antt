@@ -1,5 +1,5 @@
 -- The operations on the numbers below 2^d keep the laws of a field.
-use Rattle.std.proofs.Common.{◌≡◌, ℕ, zero, suc, ◌+◌, ◌-◌, ◌*◌, ◌/◌, ◌%◌, ◌^◌, ◌<◌, ◌≤◌, Bool, true, false, cond, T, eqb, ltb, ◌⊎◌, sym, refl, ap, ◌∙◌, subst, ap₂, inl, inr, zero-lt-suc, mul_comm, mul-le-mul_left, div-add-mod', mul-one, arith, eqb→eq, ltb→lt, pow_pos, pow_mono, le-ltb, lt-ltb}
+use Rattle.std.proofs.Common.{◌≡◌, ℕ, zero, suc, ◌+◌, ◌-◌, ◌*◌, ◌/◌, ◌%◌, ◌^◌, ◌<◌, ◌≤◌, Bool, true, false, cond, T, ltb, sym, refl, ap, ◌∙◌, subst, ap₂, zero-lt-suc, mul_comm, mul-le-mul_left, div-add-mod', mul-one, arith, ltb→lt, pow_pos, pow_mono, le-ltb, lt-ltb}
 use native.Mathlib.Nat.{mul-mod_left}
 use lib.Bits.{bit_xor, xor_zero_r, xor_comm, xor_assoc, xor_self, xor_lt}
 use Rattle.coding_theory.specs.Galois.{times, raised, among, add, mul, inv, pow, galois}

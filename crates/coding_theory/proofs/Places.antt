@@ -1,7 +1,7 @@
 -- Places of a word: those that are not zero, and that none stands twice.
-use Rattle.std.proofs.Common.{◌≡◌, ℕ, zero, suc, ◌+◌, ◌<◌, ◌≤◌, ◌⊎◌, List, [], ◌∷◌, map, length, get_or, sym, refl, ap, ◌∙◌, ap₂, arith}
+use Rattle.std.proofs.Common.{◌≡◌, ℕ, zero, suc, ◌<◌, ◌⊎◌, List, [], ◌∷◌, map, length, get_or, sym, refl, ap, ◌∙◌, arith}
 use Rattle.coding_theory.specs.Algebra.{Ops, Laws}
-use Rattle.coding_theory.specs.Words.{All, Apart, upto, power, sum}
+use Rattle.coding_theory.specs.Words.{All, Apart, upto, power}
 use Rattle.coding_theory.proofs.Algebra.{ring, o_add, o_mul, mul_i, i_mul}
 use Rattle.coding_theory.proofs.Vandermonde.{ApartBy, psum}
 

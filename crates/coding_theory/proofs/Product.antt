@@ -1,8 +1,7 @@
 -- The laws of the product modulo p, and of the powers of 2, from what the tests say.
-use Rattle.std.proofs.Common.{◌≡◌, ℕ, zero, suc, ◌+◌, ◌-◌, ◌*◌, ◌/◌, ◌%◌, ◌^◌, ◌<◌, ◌≤◌, Bool, true, false, cond, T, eqb, ltb, List, [], ◌∷◌, get_or, sym, refl, ap, ◌∙◌, subst, ap₂, le_of_suc-le-suc, not-suc-le-zero, add-zero, add-suc, mul_comm, add_comm, suc-add, mul-zero, zero-add, mul-suc, arith, eqb→eq, ltb→lt, pow_pos}
-use lib.Bits.{bit_xor}
+use Rattle.std.proofs.Common.{◌≡◌, ℕ, zero, suc, ◌+◌, ◌-◌, ◌*◌, ◌^◌, ◌<◌, T, eqb, ltb, List, get_or, sym, refl, ap, ◌∙◌, le_of_suc-le-suc, not-suc-le-zero, add-zero, add-suc, mul_comm, add_comm, suc-add, mul-zero, zero-add, mul-suc, arith, eqb→eq, ltb→lt}
 use Rattle.coding_theory.specs.Galois.{times, raised}
-use Rattle.coding_theory.proofs.Linear.{Linear, linear_zero, times_left, times_right, same, bounded}
+use Rattle.coding_theory.proofs.Linear.{linear_zero, times_left, times_right, same, bounded}
 use Rattle.coding_theory.proofs.Tests.{both, both_left, both_right, all, all_at, walk, index, closes, commutes, has_one, associates, some_power, one_power, powers}
 
 -- what antt computes of d and p

@@ -1,5 +1,5 @@
 -- What the shift register leaves makes a code word of what went in.
-use Rattle.std.proofs.Common.{◌≡◌, ℕ, zero, suc, ◌+◌, ◌-◌, ◌<◌, ◌≤◌, List, [], ◌∷◌, ◌++◌, length, get_or, drop, replicate, sym, refl, ap, ◌∙◌, ap₂, arith, length-drop}
+use Rattle.std.proofs.Common.{◌≡◌, ℕ, zero, suc, ◌<◌, ◌≤◌, List, [], ◌∷◌, ◌++◌, length, get_or, drop, replicate, sym, refl, ap, ◌∙◌, ap₂, arith, length-drop}
 use native.Mathlib.Decide.{dec_le, ℕ_discrete}
 use lib.ListN.{length-replicate, get_or-eq_default}
 use Rattle.coding_theory.specs.Algebra.{Ops, Laws}

@@ -1,13 +1,13 @@
 -- Where a code word is near, the decoder finds it.
-use Rattle.std.proofs.Common.{◌≡◌, ℕ, zero, suc, ◌+◌, ◌-◌, ◌<◌, ◌≤◌, ◌≢◌, ◌⊎◌, List, [], ◌∷◌, length, get_or, take, set, sym, refl, ap, ◌∙◌, subst, ap₂, inl, inr, arith}
+use Rattle.std.proofs.Common.{◌≡◌, ℕ, zero, suc, ◌+◌, ◌-◌, ◌<◌, ◌≤◌, ◌⊎◌, List, [], ◌∷◌, length, get_or, take, sym, refl, ap, ◌∙◌, subst, inl, inr, arith}
 use native.Mathlib.Decide.{ℕ_discrete}
 use Rattle.std.proofs.lemmas.List.{ext_get_or, get_or-set_same, get_or-set_other, length-set, length-take-le, get_or-take}
 use Rattle.coding_theory.specs.Algebra.{Ops, Laws}
 use Rattle.coding_theory.specs.Words.{All, Apart, upto, power, horner, one_more}
-use Rattle.coding_theory.specs.Decoder.{State, pad, take_if, located, valued, repaired}
-use Rattle.coding_theory.proofs.Algebra.{ring, add_o, o_add, o_mul, mul_o, mul_i, mul_comm, equal_from_add, zero_from_mul, power_not_o}
+use Rattle.coding_theory.specs.Decoder.{pad, take_if, located, valued, repaired}
+use Rattle.coding_theory.proofs.Algebra.{ring, add_o, o_add, o_mul, mul_i, mul_comm, equal_from_add, zero_from_mul, power_not_o}
 use Rattle.coding_theory.proofs.Vandermonde.{ApartBy, psum}
-use Rattle.coding_theory.proofs.Places.{In, at, all_weaker, all_yes, all_upto, apart_by, apart_upto, upto_below, support, keep_if, support_all, support_apart, support_psum, support_lift}
+use Rattle.coding_theory.proofs.Places.{In, at, all_weaker, all_yes, all_upto, apart_by, apart_upto, upto_below, support, support_apart, support_psum, support_lift}
 use Rattle.coding_theory.proofs.Values.{Explains, explained_by}
 use Rattle.coding_theory.proofs.Massey.{reval, massey, good, finds, len_least}
 use Rattle.coding_theory.proofs.Roots.{few_roots}

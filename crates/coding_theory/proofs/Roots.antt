@@ -1,5 +1,5 @@
 -- A polynomial has no more roots than its degree. Coefficients are given from the highest down.
-use Rattle.std.proofs.Common.{◌≡◌, ℕ, zero, suc, ◌<◌, ◌≤◌, List, [], ◌∷◌, length, sym, refl, ap, ◌∙◌, arith}
+use Rattle.std.proofs.Common.{◌≡◌, ℕ, suc, ◌≤◌, List, [], ◌∷◌, length, sym, refl, ap, ◌∙◌, arith}
 use Rattle.coding_theory.specs.Algebra.{Ops, Laws}
 use Rattle.coding_theory.specs.Words.{All, horner}
 use Rattle.coding_theory.proofs.Algebra.{ring, equal_from_add, zero_from_mul}

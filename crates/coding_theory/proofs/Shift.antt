@@ -1,12 +1,11 @@
 -- The product by shifts: one turn for each coefficient of b.
-use Rattle.std.proofs.Common.{◌≡◌, ℕ, zero, suc, ◌+◌, ◌-◌, ◌*◌, ◌/◌, ◌%◌, ◌^◌, ◌<◌, ◌≤◌, cond, T, eqb, ltb, sym, refl, ap, ◌∙◌, subst, ap₂, mod-lt, mod-eq_of_lt, add_comm, one-mul, zero-mul, add-one, lit≤, eqb→eq, pow_pos}
-use lib.Pow.{pow-lt, mod-pow-add}
+use Rattle.std.proofs.Common.{◌≡◌, ℕ, ◌+◌, ◌*◌, ◌/◌, ◌%◌, ◌^◌, ◌<◌, cond, T, eqb, ltb, sym, ap, ◌∙◌, mod-lt, add_comm, one-mul, zero-mul, add-one, eqb→eq, pow_pos}
+use lib.Pow.{mod-pow-add}
 use lib.Bits.{bit_xor, xor_shifted, xor_comm}
 use Rattle.coding_theory.specs.Galois.{bit, carryless, remainder, times, raised}
 use Rattle.coding_theory.proofs.Tests.{all, all_at}
 use Rattle.coding_theory.proofs.Linear.{times_right}
-use Rattle.coding_theory.proofs.Product.{Sound, times_zero_right, comm, assoc, raised_below, order_low, one_left}
-use Rattle.coding_theory.proofs.Fields.{sound_256}
+use Rattle.coding_theory.proofs.Product.{Sound, times_zero_right, comm, assoc, raised_below, order_low}
 
 module _ (d p : ℕ) (s : Sound d p) (low : T (all d (λ i. eqb (raised d p 2 i) (2 ^ i)))) where
   raised_low : (i : ℕ) → i < d → raised d p 2 i ≡ 2 ^ i

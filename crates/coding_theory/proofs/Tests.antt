@@ -1,6 +1,6 @@
 -- Tests that antt computes, for a degree d and a polynomial p.
-use Rattle.std.proofs.Common.{◌≡◌, ℕ, zero, suc, ◌+◌, ◌-◌, ◌*◌, ◌/◌, ◌%◌, ◌^◌, ◌<◌, ◌≤◌, Bool, true, false, cond, T, eqb, ltb, ◌⊎◌, List, [], ◌∷◌, length, get_or, sym, subst, inl, inr, ⊎_elim, le_of_suc-le-suc, not-suc-le-zero, eq-or-lt_of_le}
-use Rattle.coding_theory.specs.Galois.{times, raised}
+use Rattle.std.proofs.Common.{ℕ, zero, suc, ◌-◌, ◌^◌, ◌<◌, Bool, true, false, cond, T, eqb, ltb, List, [], ◌∷◌, get_or, sym, subst, ⊎_elim, le_of_suc-le-suc, not-suc-le-zero, eq-or-lt_of_le}
+use Rattle.coding_theory.specs.Galois.{times}
 
 abbrev pub both : Bool → Bool → Bool
 both true b = b

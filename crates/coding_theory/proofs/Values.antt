@@ -1,7 +1,7 @@
 -- The value of a word is a power sum over its places.
-use Rattle.std.proofs.Common.{◌≡◌, ℕ, zero, suc, ◌+◌, ◌-◌, ◌<◌, ◌≤◌, List, [], ◌∷◌, map, length, get_or, sym, refl, ap, ◌∙◌, ap₂, arith}
+use Rattle.std.proofs.Common.{◌≡◌, ℕ, zero, suc, ◌+◌, ◌-◌, ◌<◌, List, [], ◌∷◌, length, sym, ap, ◌∙◌, ap₂, arith}
 use Rattle.coding_theory.specs.Algebra.{Ops, Laws}
-use Rattle.coding_theory.specs.Words.{All, upto, power, sum, horner}
+use Rattle.coding_theory.specs.Words.{upto, power, sum, horner}
 use Rattle.coding_theory.proofs.Algebra.{ring, add_o, o_add, o_mul, mul_i, sum_add, sum_map, sum_ext}
 use Rattle.coding_theory.proofs.Vandermonde.{psum}
 use Rattle.coding_theory.proofs.Places.{at, power_power}

@@ -1,8 +1,8 @@
 -- The Vandermonde argument: as many power sums as places determine the values.
-use Rattle.std.proofs.Common.{◌≡◌, ℕ, zero, suc, ◌+◌, ◌<◌, ◌≤◌, List, [], ◌∷◌, map, length, sym, refl, ap, ◌∙◌, ap₂, arith}
+use Rattle.std.proofs.Common.{◌≡◌, ℕ, suc, ◌+◌, ◌<◌, ◌≤◌, List, [], ◌∷◌, length, refl, ap, ◌∙◌, ap₂, arith}
 use Rattle.coding_theory.specs.Algebra.{Ops, Laws}
 use Rattle.coding_theory.specs.Words.{All, power, sum}
-use Rattle.coding_theory.proofs.Algebra.{ring, add_o, o_mul, mul_comm, equal_from_add, zero_from_mul, power_not_o, sum_add, sum_mul, sum_ext, sum_o}
+use Rattle.coding_theory.proofs.Algebra.{ring, add_o, o_mul, mul_comm, equal_from_add, zero_from_mul, power_not_o}
 
 -- the places ps have locators that differ
 abbrev pub ApartBy : {F : Type 0} → (ℕ → F) → List ℕ → Type 0

@@ -10,10 +10,10 @@ use Rattle.coding_theory.specs.Code.{CodeWord}
 use Rattle.coding_theory.specs.Decoder.{State, part, disc, pad, wide_longer, wide_stepped, wide, take_if, located, taken, taken_unless, factor_unless, valued, repaired}
 use Rattle.coding_theory.proofs.Algebra.{add_o, o_add, o_mul, mul_o}
 use Rattle.coding_theory.proofs.Places.{at, all_from, support}
-use Rattle.coding_theory.proofs.Homomorphism.{Hom, power_hom, horner_hom, plus_hom, scale_hom, get_d_hom, length_map}
+use Rattle.coding_theory.proofs.Homomorphism.{Hom, power_hom, horner_hom, plus_hom, scale_hom, get_d_hom}
 use Rattle.coding_theory.proofs.Elements.{Element, same, field, laws, code, hom, lift, back, length_lift, at_lift, generator, alpha_not_zero, powers_differ, pow_lift, horner_lift}
 use Rattle.coding_theory.proofs.Distance.{few_differ, word_elements}
-use Rattle.coding_theory.proofs.Massey.{longer, stepped, massey, Good, good}
+use Rattle.coding_theory.proofs.Massey.{longer, stepped, massey, good}
 use Rattle.coding_theory.proofs.Restore.{few_located, restores, lengths_small}
 
 abbrev mk : {F : Type 0} → ℕ → List F → List F → State F

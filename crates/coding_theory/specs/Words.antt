@@ -1,5 +1,5 @@
 -- Words over a field: sums, values, and the number of places at which two differ.
-use Rattle.std.specs.Prelude.{◌≡◌, ℕ, zero, suc, List, [], ◌∷◌, map, ◌≢◌}
+use Rattle.std.specs.Prelude.{ℕ, zero, suc, List, [], ◌∷◌, map, ◌≢◌}
 use Rattle.std.proofs.Math.Decide.{ℕ_discrete}
 use Rattle.coding_theory.specs.Algebra.{Ops}
 

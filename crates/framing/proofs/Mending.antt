@@ -1,14 +1,13 @@
 -- What the word reader answers, by the corrector's answer; and that it does not read words that are out of step.
-use Rattle.std.proofs.Common.{◌≡◌, ℕ, suc, ◌+◌, ◌-◌, ◌*◌, ◌<◌, ◌≤◌, Bool, true, false, cond, eqb, ◌⊎◌, List, length, get_or, Some, None, Ok, Err, Option, Result, sym, refl, ap, ◌∙◌, subst, inl, inr, arith}
-use Rattle.std.proofs.lemmas.Bool.{eq-eqb, ne_eqb, cond-true, cond-false, cases_Bool, cases_eq}
+use Rattle.std.proofs.Common.{◌≡◌, ℕ, suc, ◌+◌, ◌-◌, ◌*◌, ◌≤◌, true, false, eqb, List, length, get_or, Some, None, Ok, Err, Option, Result, sym, refl, ap, ◌∙◌, subst, inl, inr, arith}
+use Rattle.std.proofs.lemmas.Bool.{eq-eqb, ne_eqb, cond-true, cond-false}
 use Rattle.std.proofs.lemmas.List.{length-take-le, length-drop}
 use Rattle.coding_theory.specs.Galois.{bytes}
-use Rattle.coding_theory.specs.Misaligned.{laid, window}
+use Rattle.coding_theory.specs.Misaligned.{laid}
 use Rattle.coding_theory.specs.Words.{differ}
 use Rattle.coding_theory.proofs.Fields.{bytes_lawful}
 use Rattle.coding_theory.proofs.Misaligned.{late_windows, early_windows}
-use Rattle.reed_solomon.specs.Correction.{Near, Corrected}
-use Rattle.reed_solomon.specs.Refusals.{no_word}
+use Rattle.reed_solomon.specs.Correction.{Corrected}
 use Rattle.reed_solomon.specs.declared.refusal.CodeRefusal.{CodeRefusal}
 use Rattle.framing.specs.Laws.{Sent, Unread, MisalignedUnread}
 use Rattle.framing.specs.Mending.{Mended, is_sync, tried, mended}

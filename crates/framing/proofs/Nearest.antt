@@ -1,8 +1,7 @@
 -- The first near word among all words is the one near word.
-use Rattle.std.proofs.Common.{◌≡◌, ℕ, zero, suc, ◌+◌, ◌<◌, ◌≤◌, Bool, true, false, cond, ◌&&◌, eqb, leb, ◌⊎◌, List, [], ◌∷◌, ◌++◌, map, length, get_or, Some, None, Option, sym, refl, ap, ◌∙◌, subst, inl, inr, not-suc-le-zero, arith}
+use Rattle.std.proofs.Common.{◌≡◌, ℕ, zero, suc, ◌+◌, ◌<◌, ◌≤◌, Bool, true, false, cond, eqb, leb, ◌⊎◌, List, [], ◌∷◌, ◌++◌, map, length, get_or, Some, None, Option, sym, refl, ap, ◌∙◌, subst, inl, inr, not-suc-le-zero, arith}
 use Rattle.std.proofs.lemmas.Bool.{cases_eq, le-leb, leb-true, eq-eqb, eqb-true, and_parts, and_from, both_ways}
 use Rattle.coding_theory.specs.Algebra.{plain}
-use Rattle.coding_theory.specs.Code.{CodeWord}
 use Rattle.coding_theory.specs.Galois.{bytes}
 use Rattle.coding_theory.specs.Words.{All, differ, horner}
 use Rattle.coding_theory.proofs.Fields.{bytes_lawful}

@@ -1,14 +1,13 @@
 -- The words that a sender makes are code words that begin with a sync byte.
-use Rattle.std.proofs.Common.{◌≡◌, ℕ, zero, suc, ◌+◌, ◌%◌, ◌<◌, ◌≤◌, cond, eqb, ltb, ◌⊎◌, List, [], ◌∷◌, ◌++◌, length, get_or, set, sym, refl, ap, ◌∙◌, subst, inl, inr, arith, lit<}
-use lib.Bits.{bit_xor, xor_lt}
-use Rattle.std.proofs.lemmas.List.{get_or_past, get_or-set_same, get_or-set_other, length-set, get_or_append_left}
+use Rattle.std.proofs.Common.{◌≡◌, ℕ, zero, suc, ◌%◌, ◌<◌, ◌≤◌, eqb, ltb, ◌⊎◌, List, [], ◌∷◌, length, get_or, set, sym, refl, ap, ◌∙◌, subst, inl, inr, arith, lit<}
+use lib.Bits.{xor_lt}
+use Rattle.std.proofs.lemmas.List.{get_or_past, get_or-set_same, get_or-set_other, length-set}
 use Rattle.std.proofs.lemmas.Bool.{cases_eq, cases_lt, cond_both}
 use Rattle.coding_theory.specs.Code.{CodeWord}
 use Rattle.coding_theory.specs.Galois.{bytes}
 use Rattle.coding_theory.specs.Misaligned.{Begun}
 use Rattle.coding_theory.specs.Words.{All}
-use Rattle.framing.specs.Mask.{masked, combined, marked, randomized, mask_byte}
-use Rattle.framing.specs.Mending.{is_sync}
+use Rattle.framing.specs.Mask.{masked, combined, marked, randomized}
 use Rattle.framing.specs.Words.{Packet, coded, sent_word, sent_words}
 use Rattle.framing.proofs.Coding.{coded_is_encoded, first_coded}
 use Rattle.framing.proofs.Masking.{combined_at, length_combined}

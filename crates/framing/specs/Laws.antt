@@ -1,5 +1,5 @@
 -- What is true of randomizer, words and word reader.
-use Rattle.std.specs.Prelude.{◌≡◌, ℕ, suc, ◌+◌, ◌-◌, ◌*◌, ◌<◌, ◌≤◌, ◌⊎◌, List, length, Some, None, Ok, Err, Result, bit_xor, slice_index}
+use Rattle.std.specs.Prelude.{◌≡◌, ℕ, suc, ◌+◌, ◌-◌, ◌*◌, ◌<◌, ◌≤◌, ◌⊎◌, List, length, Some, None, Err, Result, bit_xor, slice_index}
 use Rattle.coding_theory.specs.Galois.{bytes}
 use Rattle.coding_theory.specs.Misaligned.{laid, window}
 use Rattle.coding_theory.specs.Words.{All}

@@ -3,7 +3,6 @@ use Rattle.std.specs.Prelude.{ℕ, Bool, cond, ◌||◌, List, length, Some, Non
 use Rattle.coding_theory.specs.Words.{differ}
 use Rattle.reed_solomon.specs.Refusals.{no_word}
 use Rattle.framing.specs.Nearest.{nearest}
-use Rattle.framing.specs.declared.refusal.WordFault.{WordFault}
 use Rattle.framing.specs.declared.refusal.WordFault.TheVariants.{Code, Sync}
 use Rattle.framing.specs.declared.refusal.WordRefusal.{WordRefusal}
 use Rattle.framing.specs.declared.refusal.WordRefusal.TheVariants.{Length, Fault}

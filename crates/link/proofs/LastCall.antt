@@ -1,5 +1,5 @@
 -- One call more at the end of a run.
-use Rattle.std.proofs.Common.{◌≡◌, ℕ, ◌≤◌, List, [], ◌∷◌, ◌++◌, sym, refl, ap, ◌∙◌, subst, arith}
+use Rattle.std.proofs.Common.{◌≡◌, ℕ, ◌≤◌, List, [], ◌∷◌, ◌++◌, refl, ap, ◌∙◌, subst, arith}
 use Rattle.delay_line.specs.Line.{Delays}
 use Rattle.link_theory.specs.Delivery.{Since, since, Delivered}
 use Rattle.link_theory.specs.Runs.{Plan, Sound, Call, Ends, Entry, called, ran, log, collected_in}

@@ -1,11 +1,10 @@
 -- A word with a position gives its packet.
-use Rattle.std.proofs.Common.{◌≡◌, ℕ, ◌%◌, ◌<◌, List, take, Some, None, Ok, Err, Option, Result, sym, refl, ap, ◌∙◌, mod-eq_of_lt, arith}
+use Rattle.std.proofs.Common.{◌≡◌, ℕ, ◌%◌, ◌<◌, List, take, Some, None, Ok, Err, Option, Result, ap, ◌∙◌, mod-eq_of_lt, arith}
 use Rattle.framing.specs.Group.{position_of}
 use Rattle.framing.specs.Mask.{restored}
-use Rattle.framing.specs.Mending.{Mended}
 use Rattle.framing.specs.declared.group.Expected.{Expected}
 use Rattle.framing.specs.declared.refusal.WordRefusal.{WordRefusal}
-use Rattle.link_theory.specs.Receiver.{Outcome, packet, placed, event_of, outcome_of}
+use Rattle.link_theory.specs.Receiver.{packet, placed, event_of, outcome_of}
 use Rattle.link_theory.specs.declared.refusal.LinkFault.{LinkFault}
 use Rattle.link.specs.Receiver.{at_position, placed_at}
 

@@ -1,6 +1,5 @@
 -- The turns of the key equation's algorithm.
 use Rattle.std.proofs.Common.{◌≡◌, ℕ, zero, suc, ◌+◌, ◌≤◌, List, [], ◌∷◌, set, replicate, refl, ap, ◌∙◌, ap₂, arith}
-use native.Mathlib.Decide.{ℕ_discrete}
 use Rattle.coding_theory.specs.Field.{Arithmetic}
 use Rattle.coding_theory.specs.Algebra.{Ops, plain}
 use Rattle.coding_theory.specs.Decoder.{State, pad, turned, wide}

@@ -1,11 +1,11 @@
 -- What the answers of the corrector come to.
-use Rattle.std.proofs.Common.{◌≡◌, ℕ, suc, ◌+◌, ◌-◌, ◌*◌, ◌<◌, ◌≤◌, List, length, get_or, Ok, Err, Result, sym, refl, ap, ◌∙◌, subst, arith}
+use Rattle.std.proofs.Common.{◌≡◌, ℕ, ◌+◌, ◌*◌, ◌<◌, List, length, get_or, Ok, Err, Result, sym, refl, ap, ◌∙◌, arith}
 use Rattle.std.proofs.lemmas.List.{length-take-le, length-drop}
 use Rattle.coding_theory.specs.Field.{Arithmetic, Lawful}
 use Rattle.coding_theory.specs.Algebra.{plain}
 use Rattle.coding_theory.specs.Code.{CodeWord}
 use Rattle.coding_theory.specs.Words.{horner, differ}
-use Rattle.coding_theory.specs.Misaligned.{laid, window}
+use Rattle.coding_theory.specs.Misaligned.{laid}
 use Rattle.coding_theory.proofs.Differences.{differ_through}
 use Rattle.coding_theory.proofs.Distance.{minimum_distance}
 use Rattle.coding_theory.proofs.Misaligned.{late_windows, early_windows}

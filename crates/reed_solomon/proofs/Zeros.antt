@@ -1,5 +1,5 @@
 -- Values at the powers of alpha, as the remainder's contracts have them and as the code's.
-use Rattle.std.proofs.Common.{◌≡◌, ℕ, ◌+◌, ◌<◌, List, length, get_or, sym, refl, ap, ◌∙◌, zero-add}
+use Rattle.std.proofs.Common.{◌≡◌, ℕ, ◌+◌, ◌<◌, List, length, get_or, sym, ap, ◌∙◌, zero-add}
 use Rattle.coding_theory.specs.Algebra.{plain}
 use Rattle.coding_theory.specs.Code.{CodeWord}
 use Rattle.coding_theory.specs.Galois.{bytes}

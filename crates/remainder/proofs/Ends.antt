@@ -1,6 +1,6 @@
 -- What the remainder says of a whole word.
 use Rattle.std.proofs.Common.{◌≡◌, ℕ, zero, suc, ◌+◌, ◌*◌, ◌/◌, ◌%◌, ◌^◌, ◌<◌, List, [], ◌∷◌, ◌++◌, length, get_or, drop, replicate, sym, refl, ap, ◌∙◌, subst, mod-lt, mod-eq_of_lt, zero-lt-suc, div-lt_iff_lt-mul, one-mul, zero-add, div-one, arith, lit≤, pow_pos, shr_lt}
-use lib.Bits.{bit_xor, xor_self, xor_lt, xor_zero_r, xor_assoc}
+use lib.Bits.{bit_xor, xor_self, xor_lt}
 use Rattle.coding_theory.proofs.CodeWords.{light_is_zero}
 use Rattle.coding_theory.proofs.Differences.{differ_most}
 use Rattle.coding_theory.specs.Galois.{pow, bytes}

@@ -1,5 +1,5 @@
 -- Four bytes at once are four bytes one by one.
-use Rattle.std.proofs.Common.{◌≡◌, ℕ, zero, suc, ◌*◌, ◌/◌, ◌%◌, ◌^◌, ◌<◌, Bool, T, eqb, List, [], ◌∷◌, sym, refl, ap, ◌∙◌, ap₂, eqb→eq}
+use Rattle.std.proofs.Common.{◌≡◌, ℕ, ◌*◌, ◌/◌, ◌%◌, ◌^◌, ◌<◌, T, eqb, List, sym, ap, ◌∙◌, ap₂, eqb→eq}
 use lib.Bits.{bit_xor, xor_zero_r, xor_shr, xor_mod}
 use Rattle.coding_theory.proofs.Tests.{all, all_at}
 use Rattle.coding_theory.proofs.Linear.{Linear, swap4, shift_xor, same}

@@ -1,5 +1,5 @@
 -- Sixteen bytes and the number that they write.
-use Rattle.std.proofs.Common.{◌≡◌, ℕ, zero, suc, ◌+◌, ◌*◌, ◌/◌, ◌%◌, ◌^◌, ◌<◌, ◌≤◌, List, [], ◌∷◌, length, get_or, sym, refl, ap, ◌∙◌, subst, ap₂, mul-le-mul_right, mul_assoc, add-mul, arith, pow_pos, pow-add}
+use Rattle.std.proofs.Common.{◌≡◌, ℕ, suc, ◌+◌, ◌*◌, ◌/◌, ◌%◌, ◌^◌, ◌<◌, ◌≤◌, List, [], ◌∷◌, length, get_or, sym, refl, ap, ◌∙◌, ap₂, mul-le-mul_right, mul_assoc, add-mul, arith, pow-add}
 use lib.Arith.{digits_div, digits_mod}
 use Rattle.remainder.specs.Register.{bytes_of}
 

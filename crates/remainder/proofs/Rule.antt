@@ -1,10 +1,9 @@
 -- The table, and its rule.
-use Rattle.std.proofs.Common.{◌≡◌, ℕ, zero, suc, ◌+◌, ◌*◌, ◌/◌, ◌%◌, ◌^◌, ◌<◌, T, eqb, List, [], ◌∷◌, get_or, sym, refl, ap, ◌∙◌, ap₂, eqb→eq}
+use Rattle.std.proofs.Common.{◌≡◌, ℕ, ◌^◌, ◌<◌, T, eqb, refl, ap, ◌∙◌, eqb→eq}
 use lib.Bits.{bit_xor}
 use Rattle.coding_theory.specs.Galois.{bit, carryless, remainder, times, raised, pow}
-use Rattle.coding_theory.specs.Words.{horner}
-use Rattle.coding_theory.proofs.Tests.{both, all, all_at}
-use Rattle.coding_theory.proofs.Linear.{Linear, same}
+use Rattle.coding_theory.proofs.Tests.{all, all_at}
+use Rattle.coding_theory.proofs.Linear.{same}
 use Rattle.remainder.specs.Register.{bytes_of, combined, rows}
 use Rattle.remainder.proofs.Run.{run, run_xor, combined_linear}
 

@@ -1,15 +1,12 @@
 -- One root: the value of the register's bytes, carried on from v.
-use Rattle.std.proofs.Common.{◌≡◌, ℕ, zero, suc, ◌+◌, ◌-◌, ◌*◌, ◌/◌, ◌%◌, ◌^◌, ◌<◌, ◌≤◌, List, [], ◌∷◌, ◌++◌, sym, refl, ap, ◌∙◌, subst, ap₂, mod-lt, zero-lt-suc, div-one, arith, lit≤, shr-shr}
+use Rattle.std.proofs.Common.{◌≡◌, ℕ, zero, suc, ◌+◌, ◌-◌, ◌*◌, ◌/◌, ◌%◌, ◌^◌, ◌<◌, ◌≤◌, List, [], ◌∷◌, sym, refl, ap, ◌∙◌, ap₂, mod-lt, zero-lt-suc, div-one, arith, lit≤, shr-shr}
 use lib.Pow.{field, shl-shr, mod-mod-pow, shr_mod}
-use lib.Bits.{bit_xor, xor_shr, xor_mod, xor_self, xor_zero_r, xor_assoc, xor_comm}
-use Rattle.coding_theory.specs.Galois.{times, add, mul, pow}
+use lib.Bits.{bit_xor, xor_shr, xor_mod, xor_self, xor_zero_r, xor_assoc}
+use Rattle.coding_theory.specs.Galois.{times}
 use native.Mathlib.Decide.{ℕ_discrete}
 use Rattle.coding_theory.specs.Algebra.{Ops}
 use Rattle.coding_theory.specs.Words.{horner}
 use Rattle.coding_theory.proofs.Linear.{Linear, swap4, times_left, scaled_left}
-use Rattle.coding_theory.proofs.Product.{times_zero_left, below}
-use Rattle.coding_theory.proofs.Operations.{mul_is, add_byte, pow_below}
-use Rattle.coding_theory.proofs.Fields.{sound_256, bytes_lawful}
 use Rattle.remainder.specs.Register.{bytes_of, combined}
 
 -- the operations without a bound on the numbers, through which sums pass

@@ -1,5 +1,5 @@
 -- The register beside what it has read: together a code word.
-use Rattle.std.proofs.Common.{◌≡◌, ℕ, zero, suc, ◌+◌, ◌-◌, ◌*◌, ◌/◌, ◌%◌, ◌^◌, ◌<◌, ◌≤◌, T, ltb, List, [], ◌∷◌, ◌++◌, length, get_or, take, sym, refl, ap, ◌∙◌, subst, ap₂, mod-lt, zero-lt-suc, arith, lit≤, ltb→lt, pow_pos, shr_lt}
+use Rattle.std.proofs.Common.{◌≡◌, ℕ, zero, suc, ◌+◌, ◌*◌, ◌/◌, ◌%◌, ◌^◌, ◌<◌, T, ltb, List, [], ◌∷◌, ◌++◌, length, get_or, take, sym, refl, ap, ◌∙◌, subst, mod-lt, zero-lt-suc, arith, lit≤, ltb→lt, pow_pos, shr_lt}
 use Rattle.std.proofs.lemmas.List.{take_more}
 use lib.Bits.{bit_xor, xor_lt, xor_self}
 use Rattle.coding_theory.proofs.Tests.{all, all_at}

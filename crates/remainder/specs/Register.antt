@@ -1,5 +1,5 @@
 -- The register of sixteen bytes that divides by the generator polynomial of the byte code, as one number.
-use Rattle.std.specs.Prelude.{◌≡◌, ℕ, zero, suc, ◌+◌, ◌*◌, ◌/◌, ◌%◌, ◌^◌, ◌<◌, List, [], ◌∷◌, bit_xor}
+use Rattle.std.specs.Prelude.{◌≡◌, ℕ, zero, suc, ◌*◌, ◌/◌, ◌%◌, ◌^◌, ◌<◌, List, [], ◌∷◌, bit_xor}
 use Rattle.coding_theory.specs.Algebra.{plain}
 use Rattle.coding_theory.specs.Galois.{bytes}
 use Rattle.coding_theory.specs.Words.{horner}

@@ -1,5 +1,5 @@
 -- The bytes that pairs of digits write, place by place.
-use Rattle.std.proofs.Common.{◌≡◌, ℕ, zero, suc, ◌+◌, ◌*◌, ◌<◌, List, [], ◌∷◌, length, get_or, sym, refl, ap, ◌∙◌, arith}
+use Rattle.std.proofs.Common.{◌≡◌, ℕ, zero, suc, ◌+◌, ◌*◌, ◌<◌, List, [], ◌∷◌, length, get_or, refl, ap, ◌∙◌, arith}
 use Rattle.tester.specs.Hex.{digit, bytes_of}
 
 pub pair_at : (text : List ℕ) (k j : ℕ) → j ≡ 2 * k → j + 1 < length text → get_or (bytes_of text) k 0 ≡ 16 * digit (get_or text j 0) + digit (get_or text (j + 1) 0)

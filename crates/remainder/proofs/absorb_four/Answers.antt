@@ -1,4 +1,4 @@
-use Rattle.std.proofs.Common.{◌≡◌, ℕ, ◌*◌, ◌%◌, ◌^◌, ap, ◌∙◌, ap₂, rules}
+use Rattle.std.proofs.Common.{◌*◌, ◌%◌, ◌^◌, ap, ◌∙◌, ap₂, rules}
 use lib.Bits.{bit_xor}
 use Rattle.remainder.proofs.Four.{same_four, singly}
 use Rattle.remainder.proofs.absorb_four.Goals as goal

@@ -1,4 +1,4 @@
-use Rattle.std.proofs.Common.{◌≡◌, ap, ◌∙◌}
+use Rattle.std.proofs.Common.{ap, ◌∙◌}
 use Rattle.delay_line.specs.Line.{carried, fresh_line}
 use Rattle.delay_line.proofs.Runs.{trip_delayed}
 use Rattle.delay_line.proofs.trip.round_trip.Goals as goal

@@ -1,6 +1,6 @@
 use Rattle.std.proofs.Common.{get_or, ap, arith}
 use lib.Bits.{bit_xor}
-use Rattle.framing.proofs.Masking.{Upto, upto_one, upto_more, upto_all}
+use Rattle.framing.proofs.Masking.{upto_one, upto_more, upto_all}
 use Rattle.framing.proofs.randomizer.combine.Goals as goal
 
 pub loop-b-init : goal.loop-b-init

@@ -1,10 +1,9 @@
 -- Each way out is a case of the word reader's definition, by the corrector's answer on the copy, which is the word.
-use Rattle.std.proofs.Common.{◌≡◌, ℕ, true, false, List, get_or, Ok, Err, sym, ap, ◌∙◌, subst}
+use Rattle.std.proofs.Common.{◌≡◌, ℕ, List, Err, sym, ap, ◌∙◌, subst}
 use Rattle.std.proofs.lemmas.Result.{err_from_is_err_and}
 use Rattle.coding_theory.specs.Galois.{bytes}
 use Rattle.reed_solomon.specs.Correction.{Corrected}
-use Rattle.framing.specs.Laws.{MisalignedUnread}
-use Rattle.framing.specs.Mending.{Mended, is_sync, mended}
+use Rattle.framing.specs.Mending.{Mended, mended}
 use Rattle.framing.proofs.Mending.{mended_short, mended_lost, mended_sync, mended_read, misaligned_unread}
 use Rattle.framing.proofs.word.mend.Goals as goal
 

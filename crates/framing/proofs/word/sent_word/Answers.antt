@@ -1,4 +1,4 @@
-use Rattle.std.proofs.Common.{◌≡◌, ℕ, ◌%◌, ◌<◌, List, length, get_or, sym, ap, ◌∙◌, subst, rules}
+use Rattle.std.proofs.Common.{◌≡◌, ℕ, ◌%◌, ◌<◌, List, length, get_or, sym, ap, ◌∙◌, subst}
 use Rattle.framing.specs.Mask.{randomized}
 use Rattle.framing.specs.Words.{coded, sent_word}
 use Rattle.framing.proofs.Coding.{encoded_is_coded}

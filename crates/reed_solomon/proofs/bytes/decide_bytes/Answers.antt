@@ -1,4 +1,4 @@
-use Rattle.std.proofs.Common.{◌≡◌, ℕ, List, refl, ap, ◌∙◌, arith, rules}
+use Rattle.std.proofs.Common.{ℕ, List, refl, ap, ◌∙◌, arith, rules}
 use Rattle.coding_theory.specs.Galois.{bytes}
 use Rattle.coding_theory.proofs.Fields.{bytes_lawful}
 use Rattle.remainder.specs.Register.{bytes_of}

@@ -1,4 +1,4 @@
-use Rattle.std.proofs.Common.{◌≡◌, ℕ, ◌<◌, List, ◌++◌, get_or, sym, refl, ap, ◌∙◌, subst, arith, rules}
+use Rattle.std.proofs.Common.{◌≡◌, ℕ, ◌<◌, List, ◌++◌, get_or, sym, refl, ap, ◌∙◌, subst, rules}
 use Rattle.coding_theory.proofs.Fields.{bytes_lawful}
 use Rattle.coding_theory.proofs.CodeWords.{below_append}
 use Rattle.remainder.specs.Register.{Zeros, bytes_of}

@@ -1,4 +1,4 @@
-use Rattle.std.proofs.Common.{◌≡◌, ℕ, ◌+◌, ◌<◌, length, ap, ◌∙◌, arith}
+use Rattle.std.proofs.Common.{◌≡◌, ℕ, ◌+◌, length, ap, ◌∙◌, arith}
 use Rattle.coding_theory.specs.Algebra.{plain}
 use Rattle.coding_theory.specs.Words.{horner}
 use Rattle.coding_theory.proofs.Fill.{done_more}

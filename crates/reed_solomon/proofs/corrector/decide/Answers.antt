@@ -1,6 +1,6 @@
 use Rattle.std.proofs.Common.{◌≡◌, ℕ, List, get_or, sym, ap, ◌∙◌, arith, rules}
 use Rattle.reed_solomon.proofs.Values.{values_at}
-use Rattle.reed_solomon.proofs.Verdict.{wrong_length, refused, clean, zero_word}
+use Rattle.reed_solomon.proofs.Verdict.{clean, zero_word}
 use Rattle.reed_solomon.proofs.corrector.decide.Goals as goal
 
 pub returns-then-are_zero : goal.returns-then-are_zero

@@ -1,4 +1,4 @@
-use Rattle.std.proofs.Common.{◌≡◌, ℕ, ◌+◌, ◌≤◌, drop}
+use Rattle.std.proofs.Common.{◌≡◌, ◌+◌, ◌≤◌, drop}
 use Rattle.coding_theory.specs.Words.{differ}
 use Rattle.reed_solomon.proofs.corrector.distance.Given as goal
 

@@ -1,4 +1,4 @@
-use Rattle.std.proofs.Common.{◌≡◌, ℕ, ◌+◌, ◌-◌, ◌<◌, length, get_or, set, sym, ap, ◌∙◌, ap₂, arith, length-set}
+use Rattle.std.proofs.Common.{◌≡◌, ◌+◌, ◌-◌, length, get_or, sym, ap, ◌∙◌, ap₂, arith, length-set}
 use Rattle.coding_theory.specs.Algebra.{plain}
 use Rattle.coding_theory.specs.Register.{fed}
 use Rattle.coding_theory.proofs.Fill.{done_more, left_more}

@@ -1,4 +1,4 @@
-use Rattle.std.proofs.Common.{◌≡◌, ℕ, suc, ◌+◌, get_or, sym, ap, ◌∙◌, ap₂, arith}
+use Rattle.std.proofs.Common.{get_or, ◌∙◌, ap₂, arith}
 use Rattle.coding_theory.specs.Algebra.{plain}
 use Rattle.coding_theory.proofs.Fill.{done_more, left_more}
 use Rattle.reed_solomon.proofs.Lists.{is_plus}

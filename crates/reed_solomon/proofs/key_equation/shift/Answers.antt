@@ -1,4 +1,4 @@
-use Rattle.std.proofs.Common.{◌≡◌, ℕ, suc, ◌+◌, ◌∷◌, get_or, sym, ap, ◌∙◌, arith}
+use Rattle.std.proofs.Common.{◌≡◌, ℕ, suc, ◌+◌, ◌∷◌, get_or, ap, ◌∙◌, arith}
 use Rattle.coding_theory.proofs.Fill.{done_more, left_more}
 use Rattle.reed_solomon.proofs.Lists.{is_shift}
 use Rattle.reed_solomon.proofs.key_equation.shift.Goals as goal

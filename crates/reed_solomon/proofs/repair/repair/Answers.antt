@@ -1,4 +1,4 @@
-use Rattle.std.proofs.Common.{◌≡◌, ℕ, suc, ◌+◌, ◌-◌, List, length, get_or, drop, set, sym, ap, ◌∙◌, ap₂}
+use Rattle.std.proofs.Common.{ℕ, suc, ◌+◌, ◌-◌, length, get_or, drop, set, sym, ap, ◌∙◌}
 use Rattle.std.proofs.lemmas.List.{at_drop_more, at_drop_all}
 use Rattle.coding_theory.specs.Algebra.{plain}
 use Rattle.coding_theory.specs.Decoder.{repaired}

@@ -1,4 +1,4 @@
-use Rattle.std.proofs.Common.{◌≡◌, ℕ, ◌+◌, ◌/◌, ◌%◌, ◌^◌, ◌<◌, sym, refl, ap, ◌∙◌, ap₂, mod-eq_of_lt, div-one, arith, shr-shr, rules}
+use Rattle.std.proofs.Common.{◌≡◌, ℕ, ◌+◌, ◌/◌, ◌%◌, ◌^◌, ◌<◌, sym, ap, ◌∙◌, ap₂, mod-eq_of_lt, div-one, arith, shr-shr, rules}
 use native.Mathlib.Nat.{mod-one}
 use lib.Bits.{bit_xor}
 use Rattle.coding_theory.specs.Galois.{times, raised}

@@ -1,4 +1,4 @@
-use Rattle.std.proofs.Common.{◌-◌, ◌^◌, ◌≤◌, arith}
+use Rattle.std.proofs.Common.{◌^◌, ◌≤◌, arith}
 use Rattle.symbols.proofs.Packing.{turned_sum, turned_lt, pow_le}
 use Rattle.symbols.proofs.differential.with_turn.Goals as goal
 

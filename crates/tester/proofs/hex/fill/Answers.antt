@@ -1,4 +1,4 @@
-use Rattle.std.proofs.Common.{◌≡◌, ℕ, ◌+◌, ◌*◌, length, get_or, sym, refl, ◌∙◌, ap₂, arith}
+use Rattle.std.proofs.Common.{◌+◌, ◌*◌, get_or, sym, refl, ◌∙◌, ap₂, arith}
 use Rattle.std.proofs.lemmas.List.{ext_get_or}
 use Rattle.coding_theory.proofs.Fill.{done_more}
 use Rattle.tester.specs.Hex.{bytes_of}

@@ -1,6 +1,6 @@
 use Rattle.std.proofs.Common.{◌≡◌, ◌<◌, ◌≤◌, length, get_or, ap, ◌∙◌, arith}
 use Rattle.std.proofs.lemmas.List.{length-set}
-use Rattle.delay_line.specs.Line.{Line, line_at, passed, onward}
+use Rattle.delay_line.specs.Line.{line_at, passed, onward}
 use Rattle.delay_line.proofs.Carrying.{carried_more, after_more, rest_more, carried_all, after_all_lem}
 use Rattle.delay_line.proofs.half.Half.carry.Goals as goal
 

@@ -1,4 +1,4 @@
-use Rattle.std.proofs.Common.{◌≡◌, ℕ, ◌%◌, List, take, sym, ap, ◌∙◌, rules}
+use Rattle.std.proofs.Common.{ℕ, ◌%◌, List, take, ap, ◌∙◌, rules}
 use Rattle.framing.specs.Mask.{restored}
 use Rattle.framing.specs.Mending.{mended}
 use Rattle.link.proofs.Placing.{placed_packet}

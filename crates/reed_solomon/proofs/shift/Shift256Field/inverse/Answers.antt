@@ -1,5 +1,5 @@
 use Rattle.std.proofs.Common.{◌≡◌, sym, refl, ap, ◌∙◌, add-one, arith, lit≤, rules}
-use Rattle.coding_theory.specs.Galois.{times, raised, inv}
+use Rattle.coding_theory.specs.Galois.{times, raised}
 use Rattle.coding_theory.proofs.Operations.{inv_is}
 use Rattle.coding_theory.proofs.Fields.{sound_256}
 use Rattle.reed_solomon.proofs.shift.Shift256Field.inverse.Goals as goal
