@@ -4,7 +4,7 @@
 set -e
 cd "$(dirname "$0")/.."
 [ -f /usr/include/fec.h ] || { apt-get update >/dev/null && apt-get install -y libfec-dev >/dev/null; }
-rt staticlib code_c >/dev/null
+(cd crates/code_c && rt lib >/dev/null)
 mkdir -p target/bench
-cc -O2 -o target/bench/code bench/code.c target/staticlib/libcode_c.a -lfec
+cc -O2 -o target/bench/code bench/code.c crates/code_c/out/libcode_c.a -lfec
 target/bench/code

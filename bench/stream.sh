@@ -3,7 +3,7 @@
 # 38.1 Mbit/s. Reading and writing of the stream is counted too.
 set -e
 cd "$(dirname "$0")/.."
-[ -x target/bin/send ] && [ -x target/bin/receive ] || rt check send receive >/dev/null
+scripts/build.sh send receive
 mkdir -p target/bench
 stream=target/bench/stream.ts
 if [ ! -f "$stream" ]; then
@@ -20,9 +20,9 @@ row() {
 }
 for m in 4 5 6; do
     start=$(date +%s%N)
-    target/bin/send $m < "$stream" > target/bench/symbols 2>/dev/null
+    crates/send/out/send $m < "$stream" > target/bench/symbols 2>/dev/null
     middle=$(date +%s%N)
-    target/bin/receive $m < target/bench/symbols > target/bench/received.ts 2>/dev/null
+    crates/receive/out/receive $m < target/bench/symbols > target/bench/received.ts 2>/dev/null
     end=$(date +%s%N)
     row send $m $((middle - start))
     row receive $m $((end - middle))

@@ -1,7 +1,7 @@
 /* The proved word calls of Bethlyfor, for C.
  *
  * Each works on the caller's own buffer. A word is 204 bytes: 188 bytes of a randomized packet and 16 check bytes.
- * Build the library with `rt staticlib code_c`, which writes target/staticlib/libcode_c.a, and link that one archive.
+ * Build the library with `rt lib` in crates/code_c, which writes crates/code_c/out/libcode_c.a, and link that one archive.
  * What each call answers and leaves in the buffer is proved for every buffer, whatever it holds.
  */
 #ifndef BETHLYFOR_H

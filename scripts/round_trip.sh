@@ -3,10 +3,7 @@
 # that were sent. The stream is the file named (packets of 188 bytes that begin with 47h), or one that ffmpeg makes.
 # Usage: scripts/round_trip.sh [FILE]
 here=$(cd "$(dirname "$0")/.." && pwd)
-bin=$here/target/bin
-for program in send receive; do
-    [ -x "$bin/$program" ] || (cd "$here" && rt check "$program" >&2) || exit 1
-done
+"$here/scripts/build.sh" send receive || exit 1
 work=$(mktemp -d) || exit 1
 trap 'rm -rf "$work"' EXIT
 
@@ -27,8 +24,8 @@ number() {
 
 status=0
 for m in 4 5 6; do
-    "$bin/send" "$m" <"$work/sent.ts" 2>"$work/send.account" >"$work/symbols" || exit 1
-    "$bin/receive" "$m" <"$work/symbols" 2>"$work/receive.account" >"$work/received.ts" || exit 1
+    "$here/crates/send/out/send" "$m" <"$work/sent.ts" 2>"$work/send.account" >"$work/symbols" || exit 1
+    "$here/crates/receive/out/receive" "$m" <"$work/symbols" 2>"$work/receive.account" >"$work/received.ts" || exit 1
     sent=$(($(number packets "$work/send.account") - $(number refused "$work/send.account")))
     received=$(number packets "$work/receive.account")
     first=$(number first "$work/receive.account")

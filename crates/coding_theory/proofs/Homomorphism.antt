@@ -33,10 +33,10 @@ module _ {A B : Type 0} (J : Ops A) (K : Ops B) (h : A → B) (H : Hom J K h) wh
   scale_hom a [] = refl
   scale_hom a (b ∷ q) = ap₂ ◌∷◌ (H.keeps_mul a b) (scale_hom a q)
 
-  pub get_d_hom : (r : List A) (p : ℕ) → h (get_or r p J.o) ≡ get_or (map h r) p K.o
-  get_d_hom [] p = H.keeps_o
-  get_d_hom (a ∷ r) zero = refl
-  get_d_hom (a ∷ r) (suc p) = get_d_hom r p
+  pub get_or_hom : (r : List A) (p : ℕ) → h (get_or r p J.o) ≡ get_or (map h r) p K.o
+  get_or_hom [] p = H.keeps_o
+  get_or_hom (a ∷ r) zero = refl
+  get_or_hom (a ∷ r) (suc p) = get_or_hom r p
 
   pub length_map : (r : List A) → length (map h r) ≡ length r
   length_map [] = refl

@@ -10,7 +10,7 @@ use Rattle.coding_theory.specs.Code.{CodeWord}
 use Rattle.coding_theory.specs.Decoder.{State, part, disc, pad, wide_longer, wide_stepped, wide, take_if, located, taken, taken_unless, factor_unless, valued, repaired}
 use Rattle.coding_theory.proofs.Algebra.{add_o, o_add, o_mul, mul_o}
 use Rattle.coding_theory.proofs.Places.{at, all_from, support}
-use Rattle.coding_theory.proofs.Homomorphism.{Hom, power_hom, horner_hom, plus_hom, scale_hom, get_d_hom}
+use Rattle.coding_theory.proofs.Homomorphism.{Hom, power_hom, horner_hom, plus_hom, scale_hom, get_or_hom}
 use Rattle.coding_theory.proofs.Elements.{Element, same, field, laws, code, hom, lift, back, length_lift, at_lift, generator, alpha_not_zero, powers_differ, pow_lift, horner_lift}
 use Rattle.coding_theory.proofs.Distance.{few_differ, word_elements}
 use Rattle.coding_theory.proofs.Massey.{longer, stepped, massey, good}
@@ -92,7 +92,7 @@ module _ {A B : Type 0} (J : Ops A) (K : Ops B) (h : A → B) (H : Hom J K h) wh
   factor_unless_hom (no e) y x den = H.keeps_mul _ _ ∙ ap (λ u. K.mul u (h den)) (H.keeps_add y x)
 
   valued_hom : (X : ℕ → A) (q : ℕ) (ps : List ℕ) (t : List A) (den : A) → h (valued J X q ps t den) ≡ valued K (λ j. h (X j)) q ps (map h t) (h den)
-  valued_hom X q [] t den = H.keeps_mul _ _ ∙ ap₂ K.mul (get_d_hom J K h H t 0) (H.keeps_inv den)
+  valued_hom X q [] t den = H.keeps_mul _ _ ∙ ap₂ K.mul (get_or_hom J K h H t 0) (H.keeps_inv den)
   valued_hom X q (p ∷ ps) t den =
       valued_hom X q ps _ _
       ∙ ap₂ (valued K (λ j. h (X j)) q ps) (taken_unless_hom (ℕ_discrete p q) (X p) t) (factor_unless_hom (ℕ_discrete p q) (X p) (X q) den)
@@ -121,7 +121,7 @@ module _ {A B : Type 0} (J : Ops A) (K : Ops B) (h : A → B) (H : Hom J K h) wh
   repaired_hom X b t all (p ∷ ps) r =
       repaired_hom X b t all ps _
       ∙ ap (repaired K (λ j. h (X j)) b (map h t) all ps)
-      (set_map r p _ ∙ ap (set (map h r) p) (H.keeps_add _ _ ∙ ap₂ K.add (get_d_hom J K h H r p) (valued_hom X p all t (power J (X p) b) ∙ ap (valued K (λ j. h (X j)) p all (map h t)) (power_hom J K h H (X p) b))))
+      (set_map r p _ ∙ ap (set (map h r) p) (H.keeps_add _ _ ∙ ap₂ K.add (get_or_hom J K h H r p) (valued_hom X p all t (power J (X p) b) ∙ ap (valued K (λ j. h (X j)) p all (map h t)) (power_hom J K h H (X p) b))))
 
   module _ (L : Laws J) (W : ℕ) where
     abbrev wid : List A → List B

@@ -7,7 +7,7 @@ use Rattle.delay_line.specs.Cells.{start, turned, branch_of, branched, Within}
 use Rattle.delay_line.specs.declared.interleaver.Direction.{Direction}
 use Rattle.delay_line.specs.declared.interleaver.Direction.TheVariants.{Sending, Receiving}
 use Rattle.delay_line.specs.Landed.{laid_here, laid_away}
-use Rattle.delay_line.proofs.Ringed.{cond_zero, get_d_zeros}
+use Rattle.delay_line.proofs.Ringed.{cond_zero, get_or_zeros}
 
 start_room : (i j : ℕ) → i < j → start i + 17 * i ≤ start j
 start_room i zero lt = absurd (let z : ⊥ = omega arith in z)
@@ -73,7 +73,7 @@ branched_off t cells oldest k p h = cond_off _ _ (ltb_no p (204 * t ((k + p) % 1
 
 pub branched_zeros : (t : ℕ → ℕ) (oldest : List ℕ) (k : ℕ) → branched t (replicate 1122 0) oldest k ≡ silent
 branched_zeros t oldest k = fun_ext (λ p. cond_zero (ltb p (204 * t ((k + p) % 12)))
-    (get_d_zeros 1122 (start (t ((k + p) % 12)) + turned (17 * t ((k + p) % 12)) (get_or oldest (t ((k + p) % 12)) 0 + p / 12))))
+    (get_or_zeros 1122 (start (t ((k + p) % 12)) + turned (17 * t ((k + p) % 12)) (get_or oldest (t ((k + p) % 12)) 0 + p / 12))))
 
 -- what is answered
 pub answer_unserved : (t : ℕ → ℕ) (cells oldest : List ℕ) (k b : ℕ) → t (k % 12) ≡ 0 → served t cells oldest k b 0 ≡ b

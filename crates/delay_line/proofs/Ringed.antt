@@ -8,10 +8,10 @@ pub cond_zero : (t : Bool) {x : ℕ} → x ≡ 0 → cond t x 0 ≡ 0
 cond_zero true e = e
 cond_zero false e = refl
 
-pub get_d_zeros : (n i : ℕ) → ◌≡◌ {A = ℕ} (get_or (replicate n 0) i 0) 0
-get_d_zeros zero i = refl
-get_d_zeros (suc n) zero = refl
-get_d_zeros (suc n) (suc i) = get_d_zeros n i
+pub get_or_zeros : (n i : ℕ) → ◌≡◌ {A = ℕ} (get_or (replicate n 0) i 0) 0
+get_or_zeros zero i = refl
+get_or_zeros (suc n) zero = refl
+get_or_zeros (suc n) (suc i) = get_or_zeros n i
 
 pub ringed_zeros : (d k : ℕ) → ringed (replicate 204 0) d k ≡ silent
-ringed_zeros d k = fun_ext (λ p. cond_zero (ltb p d) (get_d_zeros 204 ((k + p) % 204)))
+ringed_zeros d k = fun_ext (λ p. cond_zero (ltb p d) (get_or_zeros 204 ((k + p) % 204)))

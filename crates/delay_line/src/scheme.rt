@@ -2,7 +2,7 @@
 ghost use Rattle.std.specs.Prelude.{◌≡◌, ℕ, ◌-◌};
 ghost use Rattle.delay_line.specs.Cells.{always, twelfths};
 ghost use Rattle.delay_line.specs.Line.{Delays, Undoes, silent};
-ghost use Rattle.delay_line.specs.declared.interleaver.Direction.TheVariants.{Sending as toSend, Receiving as toReceive};
+ghost use Rattle.delay_line.specs.declared.interleaver.Direction.TheVariants.{Sending as to_send, Receiving as to_receive};
 ghost use Rattle.std.proofs.Common.{rules, arith};
 
 use crate::board::BoardDelay;
@@ -104,9 +104,9 @@ impl Scheme for Interleaving {
 
     type Receiving = Interleaver;
 
-    ghost sends = { λ s. twelfths toSend };
+    ghost sends = { λ s. twelfths to_send };
 
-    ghost receives = { λ s. twelfths toReceive };
+    ghost receives = { λ s. twelfths to_receive };
 
     ghost spans = { λ s. 11 };
 

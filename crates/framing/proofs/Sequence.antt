@@ -53,15 +53,15 @@ recurs n =
     let e' : n + 1 ≡ suc n = omega arith in
     ap mask_bit e ∙ ap (λ k. bit_xor (mask_bit k) (mask_bit n)) (sym e')
 
-all_get_d : (P : ℕ → Type 0) (xs : List ℕ) → P 0 → All P xs → (k : ℕ) → P (get_or xs k 0)
-all_get_d P [] o h k = o
-all_get_d P (x ∷ xs) o h zero = h.0
-all_get_d P (x ∷ xs) o h (suc k) = all_get_d P xs o h.1 k
+all_get_or : (P : ℕ → Type 0) (xs : List ℕ) → P 0 → All P xs → (k : ℕ) → P (get_or xs k 0)
+all_get_or P [] o h k = o
+all_get_or P (x ∷ xs) o h zero = h.0
+all_get_or P (x ∷ xs) o h (suc k) = all_get_or P xs o h.1 k
 
 -- mask bits are 0 or 1, and mask bytes are bytes
 bits_before : (n k : ℕ) → get_or (before n) k 0 < 2
 unfolding before seed longer
-bits_before zero k = all_get_d (λ b. b < 2) seed (lit< tt) (lit< tt, (lit< tt, (lit< tt, (lit< tt, (lit< tt, (lit< tt, (lit< tt, (lit< tt, (lit< tt, (lit< tt, (lit< tt, (lit< tt, (lit< tt, (lit< tt, (lit< tt, tt))))))))))))))) k
+bits_before zero k = all_get_or (λ b. b < 2) seed (lit< tt) (lit< tt, (lit< tt, (lit< tt, (lit< tt, (lit< tt, (lit< tt, (lit< tt, (lit< tt, (lit< tt, (lit< tt, (lit< tt, (lit< tt, (lit< tt, (lit< tt, (lit< tt, tt))))))))))))))) k
 bits_before (suc n) zero = xor_lt 1 _ _ (bits_before n 13) (bits_before n 14)
 bits_before (suc n) (suc k) = bits_before n k
 

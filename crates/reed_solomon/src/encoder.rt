@@ -1,7 +1,7 @@
 // Check symbols by division by the generator polynomial.
 ghost use Rattle.std.specs.Prelude.{◌≡◌, suc, ◌+◌, ◌<◌, ◌≤◌, ◌++◌, length, replicate};
 ghost use Rattle.coding_theory.specs.Algebra.{plain};
-ghost use Rattle.coding_theory.specs.Register.{checks as checksOf, divided, extended, fed, generator as generatorOf};
+ghost use Rattle.coding_theory.specs.Register.{checks as checks_of, divided, extended, fed, generator as generator_of};
 ghost use Rattle.reed_solomon.specs.Encoding.{Encoded};
 
 use crate::field::Field;
@@ -22,7 +22,7 @@ fn extend<F: Field>(g: &mut [u8], a: u8)
 // The polynomial with the roots alpha^first, alpha^(first+1), ..: `count` of them, from the highest coefficient down.
 fn generator<F: Field>(first: u64, count: usize, g: &mut [u8])
     requires { g.old ≡ replicate (suc count) 0 }
-    ensures { g.new ≡ generatorOf (plain F.ops) (λ k. F.ops.pow (first + k)) count count }
+    ensures { g.new ≡ generator_of (plain F.ops) (λ k. F.ops.pow (first + k)) count count }
 {
     g[0] = 1;
     let mut x = F::power(first);
@@ -62,7 +62,7 @@ fn check<F: Field>(message: &[u8], first: u64, g: &mut [u8], register: &mut [u8]
     requires register_nonzero { 0 < length register.old }
     requires g_value { g.old ≡ replicate (suc (length register.old)) 0 }
     requires register_value { register.old ≡ replicate (length register.old) 0 }
-    ensures { register.new ≡ checksOf (plain F.ops) (λ k. F.ops.pow (first + k)) (length register.old) message.now }
+    ensures { register.new ≡ checks_of (plain F.ops) (λ k. F.ops.pow (first + k)) (length register.old) message.now }
 {
     generator::<F>(first, register.len(), g);
     divide::<F>(&g[1..], register, message);

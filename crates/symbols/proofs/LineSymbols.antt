@@ -15,10 +15,10 @@ pub length_span : (f : ℕ → Bool) (i n : ℕ) → length (span f i n) ≡ n
 length_span f i zero = refl
 length_span f i (suc n) = ap suc (length_span f (suc i) n)
 
-pub get_d_span : (f : ℕ → Bool) (i n b : ℕ) (d : Bool) → b < n → get_or (span f i n) b d ≡ f (i + b)
-get_d_span f i zero b d l = absurd (let z : ⊥ = omega arith in z)
-get_d_span f i (suc n) zero d l = ap f (let z : i ≡ i + 0 = omega arith in z)
-get_d_span f i (suc n) (suc b) d l = get_d_span f (suc i) n b d (omega arith) ∙ ap f (let z : suc i + b ≡ i + suc b = omega arith in z)
+pub get_or_span : (f : ℕ → Bool) (i n b : ℕ) (d : Bool) → b < n → get_or (span f i n) b d ≡ f (i + b)
+get_or_span f i zero b d l = absurd (let z : ⊥ = omega arith in z)
+get_or_span f i (suc n) zero d l = ap f (let z : i ≡ i + 0 = omega arith in z)
+get_or_span f i (suc n) (suc b) d l = get_or_span f (suc i) n b d (omega arith) ∙ ap f (let z : suc i + b ≡ i + suc b = omega arith in z)
 
 -- symbols xs of m bits after a symbol with turn s; their tuples, and then the bits u, are the bytes ys of the line
 module _ (m s : ℕ) (line : ℕ → ℕ) (ys xs : List ℕ) (u : List Bool) (two : 2 ≤ m) (turned : s < 4)
@@ -53,7 +53,7 @@ module _ (m s : ℕ) (line : ℕ → ℕ) (ys xs : List ℕ) (u : List Bool) (tw
           ∙ octet_bit ys q d l8
           ∙ ap (λ y. get_or (bits 8 y) (q % 8) d) (bytes (q / 8) l8)
           ∙ get_or_default (bits 8 (line (q / 8))) (q % 8) d false b8
-          ∙ sym (get_d_span (line_bit m line) (m * j) m b d lm)
+          ∙ sym (get_or_span (line_bit m line) (m * j) m b d lm)
 
   pub prior_is : (j : ℕ) → j ≤ length xs → prior_turn m s xs j ≡ (s + turns m line j) % 4
   prior_is zero l = omega arith

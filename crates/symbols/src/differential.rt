@@ -1,12 +1,12 @@
 // Turns in the two highest bits.
 ghost use Rattle.std.specs.Prelude.{◌≡◌, ◌^◌, ◌<◌, ◌≤◌, ◌++◌, drop};
 ghost use Rattle.symbols.specs.Bits.{bits, number};
-ghost use Rattle.symbols.specs.Turns.{lead, turn as turnIn, turn_of};
+ghost use Rattle.symbols.specs.Turns.{lead, turn as turn_in, turn_of};
 
 // The turn for which two bits stand.
 fn turn_of(top: u8) -> u8
     requires { top < 4 }
-    ensures { result ≡ turnIn (bits 2 top) }
+    ensures { result ≡ turn_in (bits 2 top) }
 {
     match top {
         0 => 0,

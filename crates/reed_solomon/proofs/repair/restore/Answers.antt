@@ -34,10 +34,10 @@ returns-in_default g c =
     let lc = zeros c.args.con.now (suc l) c.requires.con_value in
     let con : c.connect.new.con ≡ (wide K (suc l) (λ k. get_or s k 0) (length s)).con = c.connect.ensures ∙ ap (λ k. (wide K k (λ k. get_or s k 0) (length s)).con) lc in
     λ nm bw es e cw few half.
-    let Near-word = near g.met.F.Field.lawful (length w) c.args.first (length s) l nm w e s refl bw cw few half refl
+    let near_word = near g.met.F.Field.lawful (length w) c.args.first (length s) l nm w e s refl bw cw few half refl
     (λ k u. ap (λ (z : List ℕ). get_or z k 0) es ∙ values_at A c.args.first (length s) w k u) in
     let many : l < length (located K X c.connect.new.con (from 0 (length w))) = c.in_default.ensures in
-    absurd (let z : ⊥ = omega (arith, Near-word.0, many, ap (λ (z : List ℕ). length (located K X z (from 0 (length w)))) con) in z)
+    absurd (let z : ⊥ = omega (arith, near_word.0, many, ap (λ (z : List ℕ). length (located K X z (from 0 (length w)))) con) in z)
 
 pub repair-requires : goal.repair-requires
 repair-requires g c =
