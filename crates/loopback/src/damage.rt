@@ -1,5 +1,6 @@
 // Damage to symbols on their way.
-ghost use Rattle.std.specs.Prelude.{◌≤◌};
+ghost use Rattle.std.specs.Prelude.{◌≡◌, ◌^◌, ◌<◌, ◌≤◌, ◌≢◌, false};
+ghost use Rattle.loopback.specs.declared.damage.Damage.TheVariants.{Clean};
 
 use symbols::Mapping;
 
@@ -23,7 +24,7 @@ pub struct Channel {
 
 // How many symbols there are.
 fn symbols_of(mapping: Mapping) -> u32
-    ensures { (16 ≤ result) × (result ≤ 64) }
+    ensures { (16 ≤ result) × (result ≤ 64) × (result ≡ 2 ^ mapping.bits) }
 {
     match mapping.bits() {
         4 => 16,
@@ -33,14 +34,20 @@ fn symbols_of(mapping: Mapping) -> u32
 }
 
 // Another symbol than this one, by a random number.
-fn another(mapping: Mapping, symbol: u8, random: u32) -> u8 {
+fn another(mapping: Mapping, symbol: u8, random: u32) -> u8
+    ensures symbol { result < 2 ^ mapping.bits }
+    ensures changed { symbol < 2 ^ mapping.bits → result ≢ symbol }
+{
     let count = symbols_of(mapping);
     let step = 1 + random % (count - 1);
     ((symbol as u32 + step) % count) as u8
 }
 
 impl Channel {
-    pub fn new(mapping: Mapping, damage: Damage) -> Channel {
+    // At its first symbol.
+    pub fn new(mapping: Mapping, damage: Damage) -> Channel
+        ensures { (result.mapping ≡ mapping) × (result.damage ≡ damage) × (result.place ≡ 0) }
+    {
         Channel {
             mapping,
             damage,
@@ -50,13 +57,17 @@ impl Channel {
     }
 
     // The next random number, below 32,768.
-    fn random(&mut self) -> u32 {
+    fn random(&mut self) -> u32
+        ensures { (self.new.mapping ≡ self.old.mapping) × (self.new.damage ≡ self.old.damage) × (self.new.place ≡ self.old.place) }
+    {
         let next = (1103515245 * self.state as u64 + 12345) % 2147483648;
         self.state = next as u32;
         self.state / 65536
     }
 
-    fn damages(&self, random: u32) -> bool {
+    fn damages(&self, random: u32) -> bool
+        ensures { self.now.damage ≡ Clean → result ≡ false }
+    {
         match self.damage {
             Damage::Clean => false,
             Damage::Scattered(rate) => random % 1000 < rate,
@@ -64,8 +75,12 @@ impl Channel {
         }
     }
 
-    // What becomes of the next symbol.
-    pub fn pass(&mut self, symbol: u8) -> u8 {
+    // What becomes of the next symbol: a symbol of the mapping stays one, and a clean channel changes none.
+    pub fn pass(&mut self, symbol: u8) -> u8
+        ensures symbol { symbol < 2 ^ self.old.mapping.bits → result < 2 ^ self.old.mapping.bits }
+        ensures clean { self.old.damage ≡ Clean → result ≡ symbol }
+        ensures settings { (self.new.mapping ≡ self.old.mapping) × (self.new.damage ≡ self.old.damage) }
+    {
         let random = self.random();
         let damaged = self.damages(random);
         self.place = self.place.wrapping_add(1);

@@ -1,4 +1,7 @@
-// What became of the packets of a stream.
+// What became of the packets of a stream. Each number stops at the largest that fits.
+ghost use Rattle.std.specs.Prelude.{◌≡◌, ◌+◌, ◌-◌, ◌^◌, ◌<◌, None, Some, min, nat_lt, nat_eq, if◌then◌else◌};
+ghost use Rattle.link_theory.specs.Refusals.{link_number};
+
 use link_theory::LinkFault;
 
 #[derive(Clone, Copy)]
@@ -20,7 +23,11 @@ pub struct Tally {
 }
 
 impl Tally {
-    pub fn new() -> Tally {
+    pub fn new() -> Tally
+        ensures packets { (result.loaded ≡ 0) × (result.collected ≡ 0) × (result.repaired ≡ 0) × (result.under_way ≡ 0) × (result.different ≡ 0) }
+        ensures faults { (result.fault11 ≡ 0) × (result.fault12 ≡ 0) × (result.fault13 ≡ 0) }
+        ensures first { result.first ≡ None }
+    {
         Tally {
             loaded: 0,
             collected: 0,
@@ -34,7 +41,15 @@ impl Tally {
         }
     }
 
-    pub fn add_packet(&mut self, frame: u32, count: u8, same: bool) {
+    // A packet was collected, in whose word so many bytes were corrected; `same` says whether it is the loaded one.
+    pub fn add_packet(&mut self, frame: u32, count: u8, same: bool)
+        ensures collected { self.new.collected ≡ min (self.old.collected + 1) (2 ^ 32 - 1) }
+        ensures repaired { self.new.repaired ≡ min (self.old.repaired + count) (2 ^ 32 - 1) }
+        ensures first { self.new.first ≡ elim self.old.first [ None ↦ Some frame | Some f ↦ Some f ] }
+        ensures different { self.new.different ≡ (if same then self.old.different else min (self.old.different + 1) (2 ^ 32 - 1)) }
+        ensures faults { (self.new.fault11 ≡ self.old.fault11) × (self.new.fault12 ≡ self.old.fault12) × (self.new.fault13 ≡ self.old.fault13) }
+        ensures others { (self.new.loaded ≡ self.old.loaded) × (self.new.under_way ≡ self.old.under_way) }
+    {
         self.collected = self.collected.saturating_add(1);
         self.repaired = self.repaired.saturating_add(count as u32);
         if self.first.is_none() {
@@ -45,7 +60,14 @@ impl Tally {
         }
     }
 
-    pub fn add_fault(&mut self, fault: LinkFault) {
+    // A word gave no packet, by this fault.
+    pub fn add_fault(&mut self, fault: LinkFault)
+        ensures code { self.new.fault11 ≡ (if nat_eq (link_number fault) 11 then min (self.old.fault11 + 1) (2 ^ 32 - 1) else self.old.fault11) }
+        ensures sync { self.new.fault12 ≡ (if nat_eq (link_number fault) 12 then min (self.old.fault12 + 1) (2 ^ 32 - 1) else self.old.fault12) }
+        ensures group { self.new.fault13 ≡ (if nat_eq (link_number fault) 13 then min (self.old.fault13 + 1) (2 ^ 32 - 1) else self.old.fault13) }
+        ensures packets { (self.new.collected ≡ self.old.collected) × (self.new.repaired ≡ self.old.repaired) × (self.new.first ≡ self.old.first) × (self.new.different ≡ self.old.different) }
+        ensures others { (self.new.loaded ≡ self.old.loaded) × (self.new.under_way ≡ self.old.under_way) }
+    {
         match fault.number() {
             11 => self.fault11 = self.fault11.saturating_add(1),
             12 => self.fault12 = self.fault12.saturating_add(1),
@@ -55,7 +77,12 @@ impl Tally {
     }
 
     // An outcome after the stream's end: that of a loaded packet was under way.
-    pub fn add_late(&mut self, frame: u32) {
+    pub fn add_late(&mut self, frame: u32)
+        ensures under_way { self.new.under_way ≡ (if nat_lt frame self.old.loaded then min (self.old.under_way + 1) (2 ^ 32 - 1) else self.old.under_way) }
+        ensures packets { (self.new.collected ≡ self.old.collected) × (self.new.repaired ≡ self.old.repaired) × (self.new.first ≡ self.old.first) × (self.new.different ≡ self.old.different) }
+        ensures faults { (self.new.fault11 ≡ self.old.fault11) × (self.new.fault12 ≡ self.old.fault12) × (self.new.fault13 ≡ self.old.fault13) }
+        ensures loaded { self.new.loaded ≡ self.old.loaded }
+    {
         if frame < self.loaded {
             self.under_way = self.under_way.saturating_add(1);
         }

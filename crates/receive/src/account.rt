@@ -1,4 +1,7 @@
-// What a run came to.
+// What a run came to. Each number stops at the largest that fits.
+ghost use Rattle.std.specs.Prelude.{◌≡◌, ◌+◌, ◌-◌, ◌^◌, None, Some, min, nat_eq, if◌then◌else◌};
+ghost use Rattle.link_theory.specs.Refusals.{link_number};
+
 use link_theory::LinkFault;
 
 #[derive(Clone, Copy)]
@@ -18,7 +21,11 @@ pub struct Account {
 }
 
 impl Account {
-    pub fn new() -> Account {
+    pub fn new() -> Account
+        ensures symbols { (result.symbols ≡ 0) × (result.refused ≡ 0) }
+        ensures packets { (result.packets ≡ 0) × (result.corrected ≡ 0) × (result.first ≡ None) }
+        ensures faults { (result.fault11 ≡ 0) × (result.fault12 ≡ 0) × (result.fault13 ≡ 0) }
+    {
         Account {
             symbols: 0,
             refused: 0,
@@ -31,7 +38,14 @@ impl Account {
         }
     }
 
-    pub fn add_packet(&mut self, frame: u32, count: u8) {
+    // A packet was written, in whose word so many bytes were corrected.
+    pub fn add_packet(&mut self, frame: u32, count: u8)
+        ensures packets { self.new.packets ≡ min (self.old.packets + 1) (2 ^ 64 - 1) }
+        ensures corrected { self.new.corrected ≡ min (self.old.corrected + count) (2 ^ 64 - 1) }
+        ensures first { self.new.first ≡ elim self.old.first [ None ↦ Some frame | Some f ↦ Some f ] }
+        ensures faults { (self.new.fault11 ≡ self.old.fault11) × (self.new.fault12 ≡ self.old.fault12) × (self.new.fault13 ≡ self.old.fault13) }
+        ensures symbols { (self.new.symbols ≡ self.old.symbols) × (self.new.refused ≡ self.old.refused) }
+    {
         self.packets = self.packets.saturating_add(1);
         self.corrected = self.corrected.saturating_add(count as u64);
         if self.first.is_none() {
@@ -39,7 +53,14 @@ impl Account {
         }
     }
 
-    pub fn add_fault(&mut self, fault: LinkFault) {
+    // A word gave no packet, by this fault.
+    pub fn add_fault(&mut self, fault: LinkFault)
+        ensures code { self.new.fault11 ≡ (if nat_eq (link_number fault) 11 then min (self.old.fault11 + 1) (2 ^ 64 - 1) else self.old.fault11) }
+        ensures sync { self.new.fault12 ≡ (if nat_eq (link_number fault) 12 then min (self.old.fault12 + 1) (2 ^ 64 - 1) else self.old.fault12) }
+        ensures group { self.new.fault13 ≡ (if nat_eq (link_number fault) 13 then min (self.old.fault13 + 1) (2 ^ 64 - 1) else self.old.fault13) }
+        ensures packets { (self.new.packets ≡ self.old.packets) × (self.new.corrected ≡ self.old.corrected) × (self.new.first ≡ self.old.first) }
+        ensures symbols { (self.new.symbols ≡ self.old.symbols) × (self.new.refused ≡ self.old.refused) }
+    {
         match fault.number() {
             11 => self.fault11 = self.fault11.saturating_add(1),
             12 => self.fault12 = self.fault12.saturating_add(1),
