@@ -1,4 +1,5 @@
-// The code for callers in C: encoder, corrector and word reader on the caller's own buffer of 204 bytes.
+// The code for callers in C: encoder, corrector and word reader on the caller's own buffer of 204 bytes. Answers are numbers, since C needs
+// them.
 #![tactic(auto)]
 
 ghost use Rattle.std.specs.Prelude.{◌≡◌, ℕ};
@@ -7,7 +8,7 @@ ghost use Rattle.framing.specs.Laws.{MisalignedUnread};
 ghost use Rattle.framing.specs.Mending.{mended};
 
 use framing::mend;
-use reed_solomon::{correct_bytes, encode_bytes};
+use reed_solomon::{CodeRefusal, correct_bytes, encode_bytes};
 
 // Puts the 16 check bytes behind the 188 bytes of a message in a buffer of 204 bytes, and answers 0; 14 for a buffer of another length,
 // which is left as it was.
@@ -16,7 +17,7 @@ pub extern "C" fn bethlyfor_encode(word: &mut [u8]) -> u32
     ensures { Encodes word.old word.new result }
 {
     if word.len() != 204 {
-        return 14;
+        return CodeRefusal::Length.number();
     }
     let mut message = [0u8; 188];
     message.copy_from_slice(&word[0..188]);
@@ -30,10 +31,7 @@ pub extern "C" fn bethlyfor_encode(word: &mut [u8]) -> u32
 pub extern "C" fn bethlyfor_correct(word: &mut [u8]) -> u32
     ensures { Corrects word.old word.new result }
 {
-    match correct_bytes(word) {
-        Ok(count) => count as u32,
-        Err(refusal) => refusal.number(),
-    }
+    correct_bytes(word).map_or_else(|refusal| refusal.number(), u32::from)
 }
 
 // Reads a buffer of 204 bytes as a word: corrects it and tries its first byte. Answers how many bytes were wrong (0 to 8), 11 if no code
@@ -45,8 +43,5 @@ pub extern "C" fn bethlyfor_mend(word: &mut [u8]) -> u32
     ensures buffer { word.new ≡ (mended word.old).buffer }
     ensures misaligned { MisalignedUnread word.old }
 {
-    match mend(word) {
-        Ok(wrong) => wrong as u32,
-        Err(refusal) => refusal.number(),
-    }
+    mend(word).map_or_else(|refusal| refusal.number(), u32::from)
 }

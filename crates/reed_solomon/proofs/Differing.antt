@@ -1,28 +1,20 @@
--- The number of differing places, counted from the front.
-use Rattle.std.proofs.Common.{◌≡◌, ℕ, ◌+◌, ◌<◌, ◌≤◌, List, [], ◌∷◌, length, get_or, drop, refl, ap₂, arith}
+-- The number of differing places, as the length of a list of pairs.
+use Rattle.std.proofs.Common.{◌≡◌, ℕ, suc, Bool, true, false, List, [], ◌∷◌, length, filter, not, ◌==◌, cond, refl, ap, ◌∙◌, rules}
 use native.Mathlib.Decide.{ℕ_discrete}
-use Rattle.std.proofs.lemmas.List.{at_drop_all, drop_more}
+use Rattle.std.specs.List.{zip}
 use Rattle.coding_theory.specs.Words.{one_more, differ}
 
-differ_more : (a b : List ℕ) (i : ℕ) → i < length a → i < length b → differ (drop i a) (drop i b) ≡ one_more (ℕ_discrete (get_or a i 0) (get_or b i 0)) (differ (drop (i + 1) a) (drop (i + 1) b))
-differ_more a b i la lb = ap₂ differ (drop_more a i 0 la) (drop_more b i 0 lb)
+abbrev pub apart : ℕ × ℕ → Bool
+apart p = not (p.0 == p.1)
 
-pub differ_same : (a b : List ℕ) (i n m t : ℕ) → i < length a → i < length b → n + differ (drop i a) (drop i b) ≡ t → get_or a i 0 ≡ get_or b i 0 → m ≡ n → m + differ (drop (i + 1) a) (drop (i + 1) b) ≡ t
-differ_same a b i n m t la lb h e q = go (ℕ_discrete (get_or a i 0) (get_or b i 0)) (differ_more a b i la lb)
+pub differ_count : (a b : List ℕ) → length (filter apart (zip a b)) ≡ differ a b
+differ_count [] b = refl
+differ_count (x ∷ a) [] = refl
+differ_count (x ∷ a) (y ∷ b) = go (ℕ_discrete x y) (filter apart (zip a b)) (differ a b) (differ_count a b)
   where
-    go : (d : Dec (get_or a i 0 ≡ get_or b i 0)) → differ (drop i a) (drop i b) ≡ one_more d (differ (drop (i + 1) a) (drop (i + 1) b)) → m + differ (drop (i + 1) a) (drop (i + 1) b) ≡ t
-    go (yes d) u = omega arith
-    go (no d) u = absurd (d e)
-
-pub differ_other : (a b : List ℕ) (i n m t : ℕ) → i < length a → i < length b → n + differ (drop i a) (drop i b) ≡ t → (get_or a i 0 ≡ get_or b i 0 → ⊥) → m ≡ n + 1 → m + differ (drop (i + 1) a) (drop (i + 1) b) ≡ t
-differ_other a b i n m t la lb h e q = go (ℕ_discrete (get_or a i 0) (get_or b i 0)) (differ_more a b i la lb)
-  where
-    go : (d : Dec (get_or a i 0 ≡ get_or b i 0)) → differ (drop i a) (drop i b) ≡ one_more d (differ (drop (i + 1) a) (drop (i + 1) b)) → m + differ (drop (i + 1) a) (drop (i + 1) b) ≡ t
-    go (yes d) u = absurd (e d)
-    go (no d) u = omega arith
-
-pub differ_end : (a b : List ℕ) (i n t : ℕ) → length a ≤ i → n + differ (drop i a) (drop i b) ≡ t → n ≡ t
-differ_end a b i n t l h = let e : differ (drop i a) (drop i b) ≡ 0 = at_drop_all (λ x. differ x (drop i b)) a i l in omega arith
+    go : (d : Dec (x ≡ y)) (rest : List (ℕ × ℕ)) (n : ℕ) → length rest ≡ n → length (cond (apart (x, y)) ((x, y) ∷ rest) rest) ≡ one_more d n
+    go (yes e) rest n h = let t : (x == y) ≡ true = search rules in ap (λ (t : Bool). length (cond (not t) ((x, y) ∷ rest) rest)) t ∙ h
+    go (no u) rest n h = let t : (x == y) ≡ false = search rules in ap (λ (t : Bool). length (cond (not t) ((x, y) ∷ rest) rest)) t ∙ ap suc h
 
 pub differ_self : (a : List ℕ) → differ a a ≡ 0
 differ_self [] = refl

@@ -5,6 +5,7 @@ mod Lists
 mod Sums
 mod Turns
 mod Elimination
+mod Restoring
 mod Differing
 pub mod Verdict
 mod Zeros

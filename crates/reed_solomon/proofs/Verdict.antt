@@ -1,5 +1,5 @@
 -- What the answers of the corrector come to.
-use Rattle.std.proofs.Common.{◌≡◌, ℕ, ◌+◌, ◌*◌, ◌<◌, List, length, get_or, Ok, Err, Result, sym, refl, ap, ◌∙◌, arith}
+use Rattle.std.proofs.Common.{◌≡◌, ℕ, ◌+◌, ◌*◌, ◌<◌, true, false, List, length, get_or, Option, None, Some, is_some, Ok, Err, Result, sym, refl, ap, ◌∙◌, subst, arith}
 use Rattle.std.proofs.lemmas.List.{length-take-le, length-drop}
 use Rattle.coding_theory.specs.Field.{Arithmetic, Lawful}
 use Rattle.coding_theory.specs.Algebra.{plain}
@@ -9,18 +9,20 @@ use Rattle.coding_theory.specs.Misaligned.{laid}
 use Rattle.coding_theory.proofs.Differences.{differ_through}
 use Rattle.coding_theory.proofs.Distance.{minimum_distance}
 use Rattle.coding_theory.proofs.Misaligned.{late_windows, early_windows}
-use Rattle.reed_solomon.specs.Correction.{Near, Corrected, Read, LateRefused, EarlyBegins, OneCorrection}
+use Rattle.reed_solomon.specs.Correction.{Near, Restored, Corrected, Read, LateRefused, EarlyBegins, OneCorrection}
 use Rattle.reed_solomon.specs.Refusals.{no_word}
+use Rattle.reed_solomon.specs.Syndromes.{ZeroAt, Evaluated, values}
 use Rattle.reed_solomon.specs.declared.refusal.CodeFault.{CodeFault}
 use Rattle.reed_solomon.specs.declared.refusal.CodeRefusal.{CodeRefusal}
 use Rattle.reed_solomon.specs.declared.refusal.CodeRefusal.TheVariants.{Length, Fault}
 use Rattle.reed_solomon.proofs.Differing.{differ_self}
+use Rattle.reed_solomon.proofs.Values.{length_values}
 
 not_ok : (x : CodeRefusal) (n : ℕ) (r : Result ℕ CodeRefusal) → r ≡ Err x → r ≡ Ok n → ⊥
-not_ok x n r p q = let z : ◌≡◌ {A = ℕ} 0 1 = cc in omega arith
+not_ok x n r p q = cc
 
 not_length : (x : CodeRefusal) (f : CodeFault) → x ≡ Fault f → x ≡ Length → ⊥
-not_length x f p q = let z : ◌≡◌ {A = ℕ} 0 1 = cc in omega arith
+not_length x f p q = cc
 
 same_err : (x y : CodeRefusal) (r : Result ℕ CodeRefusal) → r ≡ Err x → r ≡ Err y → x ≡ y
 same_err x y r p q = cc
@@ -80,12 +82,30 @@ module _ {A : Arithmetic} (L : Lawful A) (w : List ℕ) where
     pub too_far : (x : CodeRefusal) → x ≡ Fault no_word → 8 < differ v w → Corrected A w w (Err x)
     too_far x e far = refused x e lw (λ c o h. (let z : ⊥ = omega (arith, h.close, far, ap (λ (z : List ℕ). differ z w) (only c o h)) in z))
 
-    pub no_code_word : (x : CodeRefusal) → x ≡ Fault no_word → (((k : ℕ) → k < 16 → horner (plain A) (A.pow (0 + k)) 0 v ≡ 0) → ⊥) → Corrected A w w (Err x)
+    pub no_code_word : (x : CodeRefusal) → x ≡ Fault no_word → (ZeroAt A 0 16 v → ⊥) → Corrected A w w (Err x)
     no_code_word x e n = refused x e lw (λ c o h. n (λ k l. ap (horner (plain A) (A.pow (0 + k)) 0) (only c o h) ∙ h.word.zeros k l))
 
   -- a word of 204 bytes that is zero at the sixteen powers
-  pub zero_word : (v : List ℕ) → A.order ≡ 256 → length v ≡ 204 → ((k : ℕ) → get_or v k 0 < 256) → ((k : ℕ) → k < 16 → horner (plain A) (A.pow (0 + k)) 0 v ≡ 0) → CodeWord A 204 0 16 v
+  pub zero_word : (v : List ℕ) → A.order ≡ 256 → length v ≡ 204 → ((k : ℕ) → get_or v k 0 < 256) → ZeroAt A 0 16 v → CodeWord A 204 0 16 v
   zero_word v o l bytes zeros = record { size = l; elements = λ k u. omega (arith, bytes k); zeros = zeros }
+
+-- what the syndromes that are found, or not, say of the word
+pub zero_if_none : (A : Arithmetic) (w : List ℕ) (r : Option (List ℕ)) → Evaluated A w r → is_some r ≡ false → ZeroAt A 0 16 w
+zero_if_none A w None h e = h
+zero_if_none A w (Some s) h e = cc
+
+pub other_if_some : (A : Arithmetic) (w : List ℕ) (r : Option (List ℕ)) → Evaluated A w r → is_some r ≡ true → ZeroAt A 0 16 w → ⊥
+other_if_some A w None h e = cc
+other_if_some A w (Some s) h e = h.1
+
+-- a code word within eight bytes is the one that is restored
+pub found_by : {A : Arithmetic} (w s : List ℕ) (r : Option (List ℕ)) → length w ≡ 204 → ((k : ℕ) → get_or w k 0 < 256) → s ≡ values A 0 16 w → Restored A 0 8 s w r
+    → (c : List ℕ) → A.order ≡ 256 → Near A w c → r ≡ Some c
+found_by {A} w s r lw bytes es h c o near =
+    let ls : length s ≡ 16 = ap length es ∙ length_values A 0 16 w in
+    h (omega arith) (λ k l. omega (arith, bytes k)) (es ∙ ap (λ (d : ℕ). values A 0 d w) (sym ls)) c
+    (subst (λ (n : ℕ). CodeWord A n 0 (length s) c) (sym lw) (subst (λ (d : ℕ). CodeWord A 204 0 d c) (sym ls) near.word))
+    near.close (omega (arith, near.close))
 
 -- words read late and early
 module _ {A : Arithmetic} (L : Lawful A) (w e : List ℕ) (r : Result ℕ CodeRefusal) (h : Corrected A w e r) where

@@ -1,5 +1,5 @@
 -- What the corrector answers.
-use Rattle.std.specs.Prelude.{◌≡◌, ℕ, suc, ◌+◌, ◌-◌, ◌*◌, ◌<◌, ◌≤◌, Bool, true, List, length, Ok, Err, Result, ◌≢◌, slice_index}
+use Rattle.std.specs.Prelude.{◌≡◌, ℕ, suc, ◌+◌, ◌-◌, ◌*◌, ◌<◌, ◌≤◌, List, length, Option, Some, Ok, Err, Result, ◌≢◌, slice_index}
 use Rattle.coding_theory.specs.Field.{Arithmetic}
 use Rattle.coding_theory.specs.Code.{CodeWord}
 use Rattle.coding_theory.specs.Words.{differ}
@@ -11,11 +11,11 @@ use Rattle.reed_solomon.specs.declared.refusal.CodeFault.{CodeFault}
 use Rattle.reed_solomon.specs.declared.refusal.CodeRefusal.{CodeRefusal}
 use Rattle.reed_solomon.specs.declared.refusal.CodeRefusal.TheVariants.{Length, Fault}
 
--- a code word within l places of the word w is put in its place: w is the word at entry, e at exit, s its syndromes, b the first power
-abbrev pub Restored : Arithmetic → ℕ → ℕ → List ℕ → List ℕ → List ℕ → Bool → Type 0
-Restored A b l s w e r =
+-- a code word within l places of the word w is the answer r: s are the syndromes of w, b is the first power
+abbrev pub Restored : Arithmetic → ℕ → ℕ → List ℕ → List ℕ → Option (List ℕ) → Type 0
+Restored A b l s w r =
     length w ≤ A.order - 1 → ((k : ℕ) → k < length w → slice_index w k < A.order) → s ≡ values A b (length s) w
-    → (c : List ℕ) → CodeWord A (length w) b (length s) c → differ c w ≤ l → l + differ c w ≤ length s → (r ≡ true) × (e ≡ c)
+    → (c : List ℕ) → CodeWord A (length w) b (length s) c → differ c w ≤ l → l + differ c w ≤ length s → r ≡ Some c
 
 -- c is a code word of 204 bytes within eight bytes of the word w
 pub record Near (A : Arithmetic) (w c : List ℕ) : Type 0 where

@@ -1,12 +1,12 @@
 // The byte code by a remainder in one number: the same answers, sooner.
-ghost use Rattle.std.specs.Prelude.{◌≡◌, ℕ, ◌<◌, List, length};
+ghost use Rattle.std.specs.Prelude.{◌≡◌};
 ghost use Rattle.coding_theory.specs.Galois.{bytes as field};
-ghost use Rattle.reed_solomon.specs.Correction.{Corrected, EarlyBegins, LateRefused, Near, OneCorrection};
+ghost use Rattle.reed_solomon.specs.Correction.{Corrected, EarlyBegins, LateRefused, OneCorrection};
 ghost use Rattle.reed_solomon.specs.Encoding.{Encoded, OneEncoding};
 ghost use Rattle.remainder.specs.Register.{SameValues, Zeros, bytes_of};
 
 use crate::code::syndromes;
-use crate::corrector::{CORRECTABLE, candidate, distance, no_word};
+use crate::corrector::{Evaluation, decide};
 use crate::encoder::join;
 use crate::refusal::CodeRefusal;
 use crate::table::Table256;
@@ -23,8 +23,7 @@ pub fn encode_bytes(message: &[u8; 188]) -> [u8; 204]
 }
 
 // Sixteen bytes, as one number, with the syndromes of `word`: 0 exactly if it is a code word.
-fn gap(word: &[u8]) -> u128
-    requires { length word.now ≡ 204 }
+fn gap(word: &[u8; 204]) -> u128
     ensures values { SameValues (bytes_of 16 result) word.now }
     ensures clean { (result ≡ 0 → Zeros word.now) × (Zeros word.now → result ≡ 0) }
 {
@@ -33,38 +32,18 @@ fn gap(word: &[u8]) -> u128
     difference(&word[0..188], number_of(check))
 }
 
-// Takes `fixed` for the word if it is a code word within eight bytes of it.
-fn settle_bytes(word: &mut [u8], fixed: &[u8; 204]) -> Result<u8, CodeRefusal>
-    requires word_len { length word.old ≡ 204 }
-    requires by_index { (c : List ℕ) → field.order ≡ 256 → Near field word.old c → fixed.now ≡ c }
-    ensures { Corrected field word.old word.new result }
-{
-    let count = distance(fixed, word);
-    if count > CORRECTABLE {
-        return Err(no_word());
-    }
-    if gap(fixed) != 0 {
-        return Err(no_word());
-    }
-    word.copy_from_slice(fixed);
-    Ok(count as u8)
-}
+// By the remainder, whose syndromes are those of the word.
+struct Remainder {}
 
-fn decide_bytes(word: &mut [u8]) -> Result<u8, CodeRefusal>
-    ensures { Corrected field word.old word.new result }
-{
-    if word.len() != 204 {
-        return Err(CodeRefusal::Length);
-    }
-    let left = gap(word);
-    if left == 0 {
-        return Ok(0);
-    }
-    let mut s = [0u8; 16];
-    syndromes::<Table256>(&bytes_of(left), 0, &mut s);
-    match candidate::<Table256>(word, &s) {
-        Some(fixed) => settle_bytes(word, &fixed),
-        None => Err(no_word()),
+impl Evaluation<Table256> for Remainder {
+    fn nonzero_syndromes(word: &[u8; 204]) -> Option<[u8; 16]> {
+        let left = gap(word);
+        if left == 0 {
+            return None;
+        }
+        let mut s = [0u8; 16];
+        syndromes::<Table256>(&bytes_of(left), 0, &mut s);
+        Some(s)
     }
 }
 
@@ -74,13 +53,11 @@ pub fn correct_bytes(word: &mut [u8]) -> Result<u8, CodeRefusal>
     ensures late { LateRefused field word.old word.new result }
     ensures early { EarlyBegins field word.old word.new result }
 {
-    decide_bytes(word)
+    decide::<Table256, Remainder>(word)
 }
 
 // The contracts of encoder and corrector leave one answer, so any two that meet them answer alike: tables and shifts, generic and fast.
-pub fn answers_are_unique() -> u8
+pub fn answers_are_unique()
     ensures encoding { OneEncoding }
     ensures correction { OneCorrection }
-{
-    0
-}
+{}

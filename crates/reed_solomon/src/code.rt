@@ -1,14 +1,14 @@
 // Words of the code: their values at powers of alpha.
-ghost use Rattle.std.specs.Prelude.{◌≡◌, ℕ, suc, ◌+◌, ◌<◌, length, Decides, slice_index};
+ghost use Rattle.std.specs.Prelude.{◌≡◌, ℕ, suc, ◌+◌, ◌<◌, ◌↔◌, length, Decides, IsTrue, slice_index};
 ghost use Rattle.coding_theory.specs.Algebra.{plain};
 ghost use Rattle.coding_theory.specs.Code.{CodeWord};
 ghost use Rattle.coding_theory.specs.Words.{horner};
-ghost use Rattle.reed_solomon.specs.Syndromes.{values};
+ghost use Rattle.reed_solomon.specs.Syndromes.{ZeroAt, values};
 
 use crate::field::Field;
 
 // The code of words of `length` symbols that are zero at alpha^first, alpha^(first+1), ..: `powers` of them.
-#[derive(Clone, Copy)]
+#[derive(Clone, Copy, Debug, PartialEq, Eq)]
 pub struct Code {
     pub length: usize,
     pub first: u64,
@@ -38,34 +38,29 @@ pub fn syndromes<F: Field>(word: &[u8], first: u64, out: &mut [u8])
     ensures { out.new ≡ values F.ops first (length out.old) word.now }
 {
     let mut x = F::power(first);
-    for k in 0..out.len() {
-        out[k] = evaluate::<F>(word, x);
-        x = F::product(F::generator(), x);
+    for value in out.iter_mut() {
+        *value = evaluate::<F>(word, x);
+        x = F::product(F::ALPHA, x);
     }
 }
 
 // Whether each symbol is an element of the field.
 fn are_elements<F: Field>(word: &[u8]) -> bool
-    ensures { Decides result ((k : ℕ) → k < length word.now → slice_index word.now k < F.ops.order) }
+    ensures { IsTrue result ↔ ((k : ℕ) → k < length word.now → slice_index word.now k < F.ops.order) }
 {
-    for symbol in word {
-        if *symbol as usize >= F::elements() {
-            return false;
-        }
-    }
-    true
+    word.iter().all(|symbol| (*symbol as usize) < F::SIZE)
 }
 
 // Whether `word` is zero at `count` powers of alpha from alpha^first on.
-pub(crate) fn is_zero_at_powers<F: Field>(word: &[u8], first: u64, count: usize) -> bool
-    ensures { Decides result ((k : ℕ) → k < count → horner (plain F.ops) (F.ops.pow (first + k)) 0 word.now ≡ 0) }
+fn is_zero_at_powers<F: Field>(word: &[u8], first: u64, count: usize) -> bool
+    ensures { IsTrue result ↔ ZeroAt F.ops first count word.now }
 {
     let mut x = F::power(first);
     for _k in 0..count {
         if evaluate::<F>(word, x) != 0 {
             return false;
         }
-        x = F::product(F::generator(), x);
+        x = F::product(F::ALPHA, x);
     }
     true
 }

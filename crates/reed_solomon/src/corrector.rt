@@ -1,77 +1,62 @@
 // Correction of up to eight wrong bytes in a word of 204.
-ghost use Rattle.std.specs.Prelude.{◌≡◌, ℕ, ◌<◌, ◌≤◌, List, length, Some, None, Decides, slice_index};
-ghost use Rattle.coding_theory.specs.Code.{CodeWord};
+ghost use Rattle.std.specs.Prelude.{◌≡◌, ℕ, ◌<◌, ◌≤◌, ◌↔◌, List, length, Some, None, IsTrue, slice_index};
 ghost use Rattle.coding_theory.specs.Words.{differ};
 ghost use Rattle.reed_solomon.specs.Correction.{Corrected, EarlyBegins, LateRefused, Near};
-ghost use Rattle.reed_solomon.specs.Refusals.{no_word};
-ghost use Rattle.reed_solomon.specs.Syndromes.{values};
-ghost use Rattle.reed_solomon.specs.declared.refusal.CodeRefusal.TheVariants.{Fault};
+ghost use Rattle.reed_solomon.specs.Syndromes.{Evaluated, values};
 
-use crate::code::{is_zero_at_powers, syndromes};
+use crate::code::syndromes;
 use crate::field::Field;
 use crate::refusal::{CodeFault, CodeRefusal};
 use crate::repair::restore;
 
 // How many wrong bytes are corrected.
-pub(crate) const CORRECTABLE: usize = 8;
+const CORRECTABLE: usize = 8;
+
+// How many coefficients a polynomial with as many roots has.
+const WIDTH: usize = CORRECTABLE + 1;
+
+// No code word is within reach.
+const NO_WORD: CodeRefusal = CodeRefusal::Fault(CodeFault {
+    number: 11,
+    frame: 0,
+    layer: 1,
+});
+
+// A way to find a word's syndromes over a field.
+pub(crate) trait Evaluation<F: Field> {
+    // The syndromes of `word`, or nothing if all are 0.
+    fn nonzero_syndromes(word: &[u8; 204]) -> Option<[u8; 16]>
+        ensures { Evaluated F.ops word.now result };
+}
 
 // At how many places two words of one length differ.
-pub(crate) fn distance(a: &[u8], b: &[u8]) -> usize
+fn distance(a: &[u8], b: &[u8]) -> usize
     requires { length a.now ≡ length b.now }
     ensures { result ≡ differ a.now b.now }
 {
-    let mut count = 0;
-    for i in 0..a.len() {
-        if a[i] != b[i] {
-            count += 1;
-        }
-    }
-    count
+    a.iter().zip(b).filter(|(x, y)| **x != **y).count()
 }
 
 // Whether all are 0.
-pub(crate) fn are_zero(s: &[u8]) -> bool
-    ensures { Decides result ((k : ℕ) → k < length s.now → slice_index s.now k ≡ 0) }
+fn are_zero(s: &[u8]) -> bool
+    ensures { IsTrue result ↔ ((k : ℕ) → k < length s.now → slice_index s.now k ≡ 0) }
 {
-    for v in s {
-        if *v != 0 {
-            return false;
-        }
-    }
-    true
+    s.iter().all(|value| *value == 0)
 }
 
-pub(crate) fn no_word() -> CodeRefusal
-    ensures { result ≡ Fault no_word }
-{
-    CodeRefusal::Fault(CodeFault {
-        number: 11,
-        frame: 0,
-        layer: 1,
-    })
-}
+// By the values at the powers of alpha one by one, over any field.
+struct Horner {}
 
-// The one word that can be a code word within eight bytes of `word`, whose syndromes are `s`; nothing if there is none.
-pub(crate) fn candidate<F: Field>(word: &[u8], s: &[u8]) -> Option<[u8; 204]>
-    requires word_len { length word.now ≡ 204 }
-    requires s_value { s.now ≡ values F.ops 0 16 word.now }
-    ensures { elim result [ None ↦ ((c : List ℕ) → F.ops.order ≡ 256 → Near F.ops word.now c → ⊥) | Some v ↦ ((c : List ℕ) → F.ops.order ≡ 256 → Near F.ops word.now c → v ≡ c) ] }
-{
-    let mut fixed = [0u8; 204];
-    fixed.copy_from_slice(word);
-    let mut con = [0u8; 9];
-    let mut rep = [0u8; 9];
-    let mut found = [0u8; 8];
-    let mut sums = [0u8; 8];
-    if restore::<F>(&mut fixed, s, 0, &mut con, &mut rep, &mut found, &mut sums) {
-        Some(fixed)
-    } else {
-        None
+impl<F: Field> Evaluation<F> for Horner {
+    fn nonzero_syndromes(word: &[u8; 204]) -> Option<[u8; 16]> {
+        let mut s = [0u8; 16];
+        syndromes::<F>(word, 0, &mut s);
+        if are_zero(&s) { None } else { Some(s) }
     }
 }
 
 // Takes `fixed` for the word if it is a code word within eight bytes of it.
-fn settle<F: Field>(word: &mut [u8], fixed: &[u8; 204]) -> Result<u8, CodeRefusal>
+fn settle<F: Field, E: Evaluation<F>>(word: &mut [u8], fixed: &[u8; 204]) -> Result<u8, CodeRefusal>
     requires word_len { length word.old ≡ 204 }
     requires order_value { F.ops.order ≡ 256 }
     requires by_index { (c : List ℕ) → F.ops.order ≡ 256 → Near F.ops word.old c → fixed.now ≡ c }
@@ -79,33 +64,31 @@ fn settle<F: Field>(word: &mut [u8], fixed: &[u8; 204]) -> Result<u8, CodeRefusa
 {
     let count = distance(fixed, word);
     if count > CORRECTABLE {
-        return Err(no_word());
+        return Err(NO_WORD);
     }
-    if !is_zero_at_powers::<F>(fixed, 0, 16) {
-        return Err(no_word());
+    if E::nonzero_syndromes(fixed).is_some() {
+        return Err(NO_WORD);
     }
     word.copy_from_slice(fixed);
     Ok(count as u8)
 }
 
 // The code word within eight bytes, or the fault.
-fn decide<F: Field>(word: &mut [u8]) -> Result<u8, CodeRefusal>
+pub(crate) fn decide<F: Field, E: Evaluation<F>>(word: &mut [u8]) -> Result<u8, CodeRefusal>
     ensures { Corrected F.ops word.old word.new result }
 {
-    if word.len() != 204 {
+    let Some(received) = word.as_array::<204>() else {
         return Err(CodeRefusal::Length);
+    };
+    if F::SIZE != 256 {
+        return Err(NO_WORD);
     }
-    if F::elements() != 256 {
-        return Err(no_word());
-    }
-    let mut s = [0u8; 16];
-    syndromes::<F>(word, 0, &mut s);
-    if are_zero(&s) {
+    let Some(s) = E::nonzero_syndromes(received) else {
         return Ok(0);
-    }
-    match candidate::<F>(word, &s) {
-        Some(fixed) => settle::<F>(word, &fixed),
-        None => Err(no_word()),
+    };
+    match restore::<F, 204, WIDTH>(*received, &s, 0) {
+        Some(fixed) => settle::<F, E>(word, &fixed),
+        None => Err(NO_WORD),
     }
 }
 
@@ -116,5 +99,5 @@ pub fn correct<F: Field>(word: &mut [u8]) -> Result<u8, CodeRefusal>
     ensures late { LateRefused F.ops word.old word.new result }
     ensures early { EarlyBegins F.ops word.old word.new result }
 {
-    decide::<F>(word)
+    decide::<F, Horner>(word)
 }

@@ -1,6 +1,6 @@
 // Fields of characteristic two.
 ghost use Rattle.coding_theory.specs.Field.{Arithmetic, Lawful};
-ghost use Rattle.std.specs.Prelude.{◌≡◌};
+ghost use Rattle.std.specs.Prelude.{◌≡◌, ℕ};
 
 // A field whose elements are the numbers below the number of its elements, which is at most 256. An operation that is given a number
 // that is no element answers 0, and so does the inverse of 0.
@@ -8,17 +8,15 @@ pub trait Field {
     // the operations that the functions below compute
     ghost ops: { Arithmetic };
 
+    ghost SIZE: { ℕ };
+
+    ghost ALPHA: { ℕ };
+
     // the number of elements
     const SIZE: usize;
 
     // alpha, whose powers are all elements but 0
     const ALPHA: u8;
-
-    fn elements() -> usize
-        ensures { result ≡ ops.order };
-
-    fn generator() -> u8
-        ensures { result ≡ ops.alpha };
 
     fn sum(a: u8, b: u8) -> u8
         ensures { result ≡ ops.add a b };
@@ -34,4 +32,8 @@ pub trait Field {
         ensures { result ≡ ops.pow e };
 
     ghost lawful: { Lawful ops };
+
+    ghost size: { SIZE ≡ ops.order };
+
+    ghost alpha: { ALPHA ≡ ops.alpha };
 }

@@ -9,6 +9,7 @@ mod encoder;
 mod exponents;
 mod field;
 mod key_equation;
+mod polynomial;
 mod powers;
 mod refusal;
 mod repair;

@@ -1,5 +1,5 @@
 // The places of the errors, and their values.
-ghost use Rattle.std.specs.Prelude.{◌≡◌, ℕ, suc, ◌-◌, ◌<◌, ◌≤◌, length, drop, replicate, Some, None, slice_index};
+ghost use Rattle.std.specs.Prelude.{◌≡◌, ℕ, suc, ◌+◌, ◌-◌, ◌<◌, ◌≤◌, length, MatchOption, slice_index};
 ghost use Rattle.coding_theory.specs.Algebra.{plain};
 ghost use Rattle.coding_theory.specs.Decoder.{located, repaired, taken, valued};
 ghost use Rattle.coding_theory.specs.Words.{from, power};
@@ -9,11 +9,13 @@ use crate::code::evaluate;
 use crate::field::Field;
 use crate::key_equation::connect;
 
-// The places of a word of `n` symbols whose locators are roots of `con`, from first to last, at the end of `found`: the answer is where
-// they begin there, or nothing if they are more than `found` holds.
-fn locate<F: Field>(con: &[u8], n: usize, found: &mut [u8]) -> Option<usize>
+// The places of a word of `n` symbols whose locators are roots of `con`, from first to last, or nothing if they are more than the room
+// `found` holds: there is no heap, so they stand at its end, and the answer is that part of it.
+fn locate<'a, F: Field>(con: &[u8], n: usize, found: &'a mut [u8]) -> Option<&'a [u8]>
     requires { n ≤ 256 }
-    ensures { elim result [ None ↦ length found.old < length (located (plain F.ops) (λ p. F.ops.pow (n - suc p)) con.now (from 0 n)) | Some k ↦ (k ≤ length found.old) × (drop k found.new ≡ located (plain F.ops) (λ p. F.ops.pow (n - suc p)) con.now (from 0 n)) ] }
+    ensures { MatchOption result
+        (length found.old < length (located (plain F.ops) (λ p. F.ops.pow (n - suc p)) con.now (from 0 n)))
+        (λ places. (length places.now ≤ length found.old) × (places.now ≡ located (plain F.ops) (λ p. F.ops.pow (n - suc p)) con.now (from 0 n))) }
 {
     let mut start = found.len();
     let mut x = 1;
@@ -25,23 +27,16 @@ fn locate<F: Field>(con: &[u8], n: usize, found: &mut [u8]) -> Option<usize>
             start -= 1;
             found[start] = p as u8;
         }
-        x = F::product(F::generator(), x);
+        x = F::product(F::ALPHA, x);
     }
-    Some(start)
-}
-
-// The locator of place `p` in a word of `n` symbols.
-fn locator<F: Field>(n: usize, p: u8) -> u8
-    requires { p < n }
-    ensures { result ≡ F.ops.pow (n - suc p) }
-{
-    F::power((n - 1 - p as usize) as u64)
+    Some(&found[start..])
 }
 
 // Takes the place with the locator `y` out of the power sums `t`.
 fn take_out<F: Field>(t: &mut [u8], y: u8)
     ensures { t.new ≡ taken (plain F.ops) y t.old }
 {
+    // each takes in the one behind it, and the last stays: windows can't be written, and a copy moved by one would make the last a case apart
     for i in 1..t.len() {
         t[i - 1] = F::sum(F::product(y, t[i - 1]), t[i]);
     }
@@ -58,66 +53,88 @@ fn raised<F: Field>(x: u8, e: u64) -> u8
     value
 }
 
-// The value of the error at the place `q`, one of `places`, from the power sums; `t` is room to work in.
-fn value<F: Field>(sums: &[u8], t: &mut [u8], places: &[u8], n: usize, first: u64, q: u8) -> u8
-    requires sums_nonzero { 0 < length sums.now }
-    requires t_len { length t.old ≡ length sums.now }
-    requires q_lt_n { q < n }
-    requires by_index { (k : ℕ) → k < length places.now → slice_index places.now k < n }
-    ensures { result ≡ valued (plain F.ops) (λ p. F.ops.pow (n - suc p)) q places.now sums.now (power (plain F.ops) (F.ops.pow (n - suc q)) first) }
-{
-    let x = locator::<F>(n, q);
-    t.copy_from_slice(sums);
-    let mut den = raised::<F>(x, first);
-    for p in places {
-        if *p != q {
-            let y = locator::<F>(n, *p);
-            take_out::<F>(t, y);
-            den = F::product(F::sum(y, x), den);
+// Arrays of a const parameter have at most 256 elements here and in the key equation: what lends one to be written owes a bound of its size,
+// and a const parameter carries no fact of its own.
+
+// The errors of a word of `n` symbols: their places, and the power sums of their values, as many; `first` is the code's first power.
+#[derive(Drop)]
+struct Errors<'a> {
+    n: usize,
+    first: u64,
+    places: &'a [u8],
+    sums: &'a [u8],
+    ghost within: { (k : ℕ) → k < length places.now → slice_index places.now k < n },
+    ghost as_many: { length sums.now ≡ length places.now },
+}
+
+impl<'a> Errors<'a> {
+    // The locator of the place `p`.
+    fn locator<F: Field>(&self, p: u8) -> u8
+        requires { p < self.now.n }
+        ensures { result ≡ F.ops.pow (self.now.n - suc p) }
+    {
+        F::power((self.n - 1 - p as usize) as u64)
+    }
+
+    // The value of the error at `q`, one of the places; there are at most W.
+    fn value<F: Field, const W: usize>(&self, q: u8) -> u8
+        requires some { 0 < length self.now.sums.now }
+        requires fits { length self.now.sums.now ≤ W }
+        requires width { W ≤ 256 }
+        requires q_lt_n { q < self.now.n }
+        ensures { result ≡ valued (plain F.ops) (λ p. F.ops.pow (self.now.n - suc p)) q self.now.places.now self.now.sums.now (power (plain F.ops) (F.ops.pow (self.now.n - suc q)) self.now.first) }
+    {
+        let x = self.locator::<F>(q);
+        let mut room = [0u8; W];
+        let t = &mut room[..self.sums.len()];
+        t.copy_from_slice(self.sums);
+        let mut den = raised::<F>(x, self.first);
+        for p in self.places {
+            if *p != q {
+                let y = self.locator::<F>(*p);
+                take_out::<F>(t, y);
+                den = F::product(F::sum(y, x), den);
+            }
+        }
+        F::product(t[0], F::inverse(den))
+    }
+
+    // Adds the error at each of the places.
+    fn repair<F: Field, const W: usize>(&self, word: &mut [u8])
+        requires word_len { length word.old ≡ self.now.n }
+        requires fits { length self.now.sums.now ≤ W }
+        requires width { W ≤ 256 }
+        ensures { word.new ≡ repaired (plain F.ops) (λ p. F.ops.pow (self.now.n - suc p)) self.now.first self.now.sums.now self.now.places.now self.now.places.now word.old }
+    {
+        for p in self.places {
+            word[*p as usize] = F::sum(word[*p as usize], self.value::<F, W>(*p));
         }
     }
-    F::product(t[0], F::inverse(den))
 }
 
-// Adds the error at each of the places.
-fn repair<F: Field>(word: &mut [u8], sums: &[u8], t: &mut [u8], places: &[u8], first: u64)
-    requires sums_len { length sums.now ≡ length places.now }
-    requires t_len { length t.old ≡ length sums.now }
-    requires by_index { (k : ℕ) → k < length places.now → slice_index places.now k < length word.old }
-    ensures { word.new ≡ repaired (plain F.ops) (λ p. F.ops.pow (length word.old - suc p)) first sums.now places.now places.now word.old }
-{
-    let n = word.len();
-    for p in places {
-        word[*p as usize] = F::sum(word[*p as usize], value::<F>(sums, t, places, n, first, *p));
-    }
-}
-
-// Puts the one code word that can be within reach of `word` in its place, where there is one: `s` are the word's syndromes, and `found`
-// has as many places as errors can be repaired. The other slices are room to work in.
-pub(crate) fn restore<F: Field>(
-    word: &mut [u8],
+// The one code word that can be within reach of `word`, where there is one: `s` are the word's syndromes, and at most W - 1 errors can be
+// repaired.
+pub(crate) fn restore<F: Field, const N: usize, const W: usize>(
+    word: [u8; N],
     s: &[u8],
     first: u64,
-    con: &mut [u8],
-    rep: &mut [u8],
-    found: &mut [u8],
-    t: &mut [u8],
-) -> bool
-    requires word_len_bound { length word.old ≤ 256 }
+) -> Option<[u8; N]>
+    requires n_bound { N ≤ 256 }
     requires s_len_bound { length s.now ≤ 256 }
-    requires found_nonzero { 0 < length found.old }
-    requires found_in_bounds { length found.old ≤ length s.now }
-    requires t_len { length t.old ≡ length found.old }
-    requires con_value { con.old ≡ replicate (suc (length found.old)) 0 }
-    requires rep_value { rep.old ≡ replicate (suc (length found.old)) 0 }
-    ensures { Restored F.ops first (length found.old) s.now word.old word.new result }
+    requires wide { 2 ≤ W }
+    requires enough { W ≤ length s.now }
+    ensures { Restored F.ops first (W - 1) s.now word.entry result }
 {
-    connect::<F>(s, con, rep);
-    let Some(start) = locate::<F>(con, word.len(), found) else {
-        return false;
+    let con = connect::<F, W>(s);
+    let mut found = [0u8; W];
+    let places = locate::<F>(&con, N, &mut found)?;
+    let errors = Errors {
+        n: N,
+        first,
+        places,
+        sums: &s[..places.len()],
     };
-    let places = &found[start..];
-    let count = places.len();
-    repair::<F>(word, &s[0..count], &mut t[0..count], places, first);
-    true
+    let mut restored = word;
+    errors.repair::<F, W>(&mut restored);
+    Some(restored)
 }

@@ -1,6 +1,6 @@
 // The field of bytes by shifts.
 ghost use Rattle.coding_theory.specs.Galois.{bytes, times as plain};
-ghost use Rattle.std.specs.Prelude.{◌≡◌};
+ghost use Rattle.std.specs.Prelude.{◌≡◌, refl};
 ghost use Rattle.coding_theory.proofs.Fields.{bytes_lawful};
 
 use crate::field::Field;
@@ -29,11 +29,16 @@ fn shifted_product(a: u8, b: u8) -> u8
     sum
 }
 
-// The bytes modulo x^8 + x^4 + x^3 + x^2 + 1: a product adds shifted copies.
+// The bytes modulo x^8 + x^4 + x^3 + x^2 + 1: a product adds shifted copies. Constants and sum are those of the field by tables as well: each
+// implementation gives its own, since the trait, which is over any field, can give no default.
 pub struct Shift256 {}
 
 impl Field for Shift256 {
     ghost ops = { bytes };
+
+    ghost SIZE = { 256 };
+
+    ghost ALPHA = { 2 };
 
     const SIZE: usize = 256;
 
@@ -41,13 +46,9 @@ impl Field for Shift256 {
 
     ghost lawful = { bytes_lawful };
 
-    fn elements() -> usize {
-        Self::SIZE
-    }
+    ghost size = { refl };
 
-    fn generator() -> u8 {
-        Self::ALPHA
-    }
+    ghost alpha = { refl };
 
     fn sum(a: u8, b: u8) -> u8 {
         a ^ b

@@ -1,5 +1,5 @@
 // The field of bytes by two tables.
-ghost use Rattle.std.specs.Prelude.{◌≡◌, ◌<◌};
+ghost use Rattle.std.specs.Prelude.{◌≡◌, ◌<◌, ◌%◌, refl};
 ghost use Rattle.coding_theory.specs.Galois.{bytes, pow as powered};
 ghost use Rattle.coding_theory.proofs.Fields.{bytes_lawful};
 
@@ -21,11 +21,23 @@ fn exponent_of(a: u8) -> usize
     EXPONENTS[a as usize] as usize
 }
 
+// The remainder by 255 of a sum of two exponents, without a division.
+fn reduced(e: usize) -> usize
+    requires { e < 510 }
+    ensures { result ≡ e % 255 }
+{
+    if e < 255 { e } else { e - 255 }
+}
+
 // The bytes modulo x^8 + x^4 + x^3 + x^2 + 1: a product adds exponents.
 pub struct Table256 {}
 
 impl Field for Table256 {
     ghost ops = { bytes };
+
+    ghost SIZE = { 256 };
+
+    ghost ALPHA = { 2 };
 
     const SIZE: usize = 256;
 
@@ -33,13 +45,9 @@ impl Field for Table256 {
 
     ghost lawful = { bytes_lawful };
 
-    fn elements() -> usize {
-        Self::SIZE
-    }
+    ghost size = { refl };
 
-    fn generator() -> u8 {
-        Self::ALPHA
-    }
+    ghost alpha = { refl };
 
     fn sum(a: u8, b: u8) -> u8 {
         a ^ b
@@ -49,7 +57,7 @@ impl Field for Table256 {
         if a == 0 || b == 0 {
             0
         } else {
-            power_at((exponent_of(a) + exponent_of(b)) % 255)
+            power_at(reduced(exponent_of(a) + exponent_of(b)))
         }
     }
 

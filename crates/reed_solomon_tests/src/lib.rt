@@ -7,6 +7,7 @@ mod tests {
         BYTE_CODE, CodeRefusal, Field, Shift256, Table256, correct, correct_bytes, encode,
         encode_bytes, is_code_word, syndromes,
     };
+    use std::test::Fail;
 
     #[test]
     fn powers_and_inverses(rt: HostRuntime) {
@@ -53,42 +54,40 @@ mod tests {
 
     // the count, or 100 and the refusal's number
     fn told(r: Result<u8, CodeRefusal>) -> u32 {
-        match r {
-            Ok(count) => count as u32,
-            Err(refusal) => refusal.number().saturating_add(100),
-        }
+        r.map_or_else(|refusal| refusal.number().saturating_add(100), u32::from)
     }
 
-    // a word after each of the correctors, and the answer
-    fn by_tables(word: [u8; 204]) -> ([u8; 204], u32) {
-        let mut w = word;
-        let r = told(correct::<Table256>(&mut w));
-        (w, r)
-    }
-
-    fn by_shifts(word: [u8; 204]) -> ([u8; 204], u32) {
-        let mut w = word;
-        let r = told(correct::<Shift256>(&mut w));
-        (w, r)
-    }
-
-    fn by_remainder(word: [u8; 204]) -> ([u8; 204], u32) {
-        let mut w = word;
-        let r = told(correct_bytes(&mut w));
-        (w, r)
+    // the word after a corrector, and the answer
+    fn after<C: FnOnce(&mut [u8]) -> Result<u8, CodeRefusal>>(
+        corrector: C,
+        mut word: [u8; 204],
+    ) -> ([u8; 204], u32)
+        requires { C.IsAlwaysCallable corrector }
+    {
+        let answer = told(corrector(&mut word));
+        (word, answer)
     }
 
     #[test]
     fn eight_wrong_bytes_and_nine(rt: HostRuntime) {
         let mut word = [0u8; 204];
-        for i in 0..8usize {
-            word[25 * i] = 1;
+        for byte in word[..200].iter_mut().step_by(25) {
+            *byte = 1;
         }
-        assert_eq!(rt; by_tables(word), ([0u8; 204], 8));
-        assert_eq!(rt; by_remainder(word), ([0u8; 204], 8));
+        assert_eq!(rt; after(|w| correct::<Table256>(w), word), ([0u8; 204], 8));
+        assert_eq!(rt; after(|w| correct_bytes(w), word), ([0u8; 204], 8));
         word[203] = 1;
-        assert_eq!(rt; by_shifts(word), (word, 111));
-        assert_eq!(rt; by_remainder(word), (word, 111));
+        assert_eq!(rt; after(|w| correct::<Shift256>(w), word), (word, 111));
+        assert_eq!(rt; after(|w| correct_bytes(w), word), (word, 111));
+    }
+
+    #[test]
+    fn refusals_say_why(rt: HostRuntime) -> Result<(), Fail> {
+        let mut short = [7u8; 203];
+        let refusal = correct_bytes(&mut short).err().ok_or("corrected")?;
+        let text = format!(in rt.alloc(); "{refusal}")?;
+        assert_eq!(rt; text.as_str(), "the buffer is not 204 bytes");
+        Ok(())
     }
 
     #[test]
@@ -111,7 +110,7 @@ mod tests {
         let mut late = [0u8; 204];
         late[0..203].copy_from_slice(&a[1..204]);
         late[203] = b[0];
-        assert_eq!(rt; by_tables(late), (late, 111));
-        assert_eq!(rt; by_remainder(late), (late, 111));
+        assert_eq!(rt; after(|w| correct::<Table256>(w), late), (late, 111));
+        assert_eq!(rt; after(|w| correct_bytes(w), late), (late, 111));
     }
 }

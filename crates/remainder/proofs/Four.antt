@@ -3,7 +3,7 @@ use Rattle.std.proofs.Common.{◌≡◌, ℕ, ◌*◌, ◌/◌, ◌%◌, ◌^◌
 use lib.Bits.{bit_xor, xor_zero_r, xor_shr, xor_mod}
 use Rattle.coding_theory.proofs.Tests.{all, all_at}
 use Rattle.coding_theory.proofs.Linear.{Linear, swap4, shift_xor, same}
-use Rattle.remainder.specs.Register.{combined, absorbed, rows, rows1, rows2, rows3}
+use Rattle.remainder.specs.Register.{combined, absorbed, rows, rows_after}
 use Rattle.remainder.proofs.Run.{combined_linear, byte_xor}
 
 -- a function of five numbers that sums pass through
@@ -62,16 +62,16 @@ abbrev shifted : Five
 shifted x a b c d = x * 2 ^ 32 % 2 ^ 128
 
 abbrev part3 : Five
-part3 x a b c d = combined rows3 (bit_xor (x / 2 ^ 120) a)
+part3 x a b c d = combined (rows_after 3) (bit_xor (x / 2 ^ 120) a)
 
 abbrev part2 : Five
-part2 x a b c d = combined rows2 (bit_xor (x / 2 ^ 112 % 256) b)
+part2 x a b c d = combined (rows_after 2) (bit_xor (x / 2 ^ 112 % 256) b)
 
 abbrev part1 : Five
-part1 x a b c d = combined rows1 (bit_xor (x / 2 ^ 104 % 256) c)
+part1 x a b c d = combined (rows_after 1) (bit_xor (x / 2 ^ 104 % 256) c)
 
 abbrev part0 : Five
-part0 x a b c d = combined rows (bit_xor (x / 2 ^ 96 % 256) d)
+part0 x a b c d = combined (rows_after 0) (bit_xor (x / 2 ^ 96 % 256) d)
 
 abbrev plus : Five → Five → Five
 plus F G x a b c d = bit_xor (F x a b c d) (G x a b c d)
@@ -98,11 +98,11 @@ at_once_joint =
     (plus_joint (plus (plus shifted part3) part2) part1
     (plus_joint (plus shifted part3) part2
     (plus_joint shifted part3 (λ x y a a' b b' c c' d d'. shl_xor 32 x y)
-    (λ x y a a' b b' c c' d d'. entry_xor rows3 (bit_xor x y / 2 ^ 120) (x / 2 ^ 120) (y / 2 ^ 120) a a' (xor_shr x y 120)))
-    (λ x y a a' b b' c c' d d'. entry_xor rows2 (bit_xor x y / 2 ^ 112 % 256) (x / 2 ^ 112 % 256) (y / 2 ^ 112 % 256) b b' (byte_xor 112 x y)))
-    (λ x y a a' b b' c c' d d'. entry_xor rows1 (bit_xor x y / 2 ^ 104 % 256) (x / 2 ^ 104 % 256) (y / 2 ^ 104 % 256) c c' (byte_xor 104 x y)))
-    (λ x y a a' b b' c c' d d'. entry_xor rows (bit_xor x y / 2 ^ 96 % 256) (x / 2 ^ 96 % 256) (y / 2 ^ 96 % 256) d d' (byte_xor 96 x y))
+    (λ x y a a' b b' c c' d d'. entry_xor (rows_after 3) (bit_xor x y / 2 ^ 120) (x / 2 ^ 120) (y / 2 ^ 120) a a' (xor_shr x y 120)))
+    (λ x y a a' b b' c c' d d'. entry_xor (rows_after 2) (bit_xor x y / 2 ^ 112 % 256) (x / 2 ^ 112 % 256) (y / 2 ^ 112 % 256) b b' (byte_xor 112 x y)))
+    (λ x y a a' b b' c c' d d'. entry_xor (rows_after 1) (bit_xor x y / 2 ^ 104 % 256) (x / 2 ^ 104 % 256) (y / 2 ^ 104 % 256) c c' (byte_xor 104 x y)))
+    (λ x y a a' b b' c c' d d'. entry_xor (rows_after 0) (bit_xor x y / 2 ^ 96 % 256) (x / 2 ^ 96 % 256) (y / 2 ^ 96 % 256) d d' (byte_xor 96 x y))
 
 pub same_four : (x a b c d : ℕ) → x < 2 ^ 128 → a < 256 → b < 256 → c < 256 → d < 256 → at_once x a b c d ≡ singly x a b c d
-unfolding singly absorbed combined rows rows1 rows2 rows3
+unfolding singly absorbed combined rows rows_after
 same_four = agree at_once singly at_once_joint singly_joint tt tt tt tt tt

@@ -1,6 +1,8 @@
 -- The register beside what it has read: together a code word.
-use Rattle.std.proofs.Common.{◌≡◌, ℕ, zero, suc, ◌+◌, ◌*◌, ◌/◌, ◌%◌, ◌^◌, ◌<◌, T, ltb, List, [], ◌∷◌, ◌++◌, length, get_or, take, sym, refl, ap, ◌∙◌, subst, mod-lt, zero-lt-suc, arith, lit≤, ltb→lt, pow_pos, shr_lt}
-use Rattle.std.proofs.lemmas.List.{take_more}
+use Rattle.std.proofs.Common.{◌≡◌, ℕ, zero, suc, ◌+◌, ◌*◌, ◌/◌, ◌%◌, ◌^◌, ◌<◌, T, ltb, List, [], ◌∷◌, ◌++◌, get_or, take, drop, sym, refl, ap, ◌∙◌, subst, mod-lt, zero-lt-suc, arith, lit≤, ltb→lt, pow_pos, shr_lt, append-nil, append_assoc, take-append-drop, drop-drop}
+use Rattle.std.specs.List.{fold}
+use Rattle.std.specs.Simd.{first_chunks}
+use Rattle.std.proofs.lemmas.List.Sums.{fold-append}
 use lib.Bits.{bit_xor, xor_lt, xor_self}
 use Rattle.coding_theory.proofs.Tests.{all, all_at}
 use Rattle.coding_theory.proofs.Linear.{bounded}
@@ -80,23 +82,19 @@ absorbed_below x c hx hc =
     (λ i h. ltb→lt _ _ (all_at 8 (λ i. ltb (combined rows (2 ^ i)) (2 ^ 128)) rows_below i h))
     (bit_xor (x / 2 ^ 120) c) (xor_lt 8 (x / 2 ^ 120) c (shr_lt 8 120 hx) hc))
 
--- the register x stands for the first i bytes
-abbrev pub Stands : List ℕ → ℕ → ℕ → Type 0
-Stands xs i x = (x < 2 ^ 128) × Zeros (take i xs ++ bytes_of 16 x)
+-- the register after the bytes xs, which are read behind ps
+pub all_coded : (xs ps : List ℕ) (x : ℕ) → x < 2 ^ 128 → ((k : ℕ) → get_or xs k 0 < 256) → Zeros (ps ++ bytes_of 16 x) → Zeros ((ps ++ xs) ++ bytes_of 16 (fold absorbed x xs))
+all_coded [] ps x hx below coded = subst (λ (zs : List ℕ). Zeros (zs ++ bytes_of 16 x)) (sym (append-nil ps)) coded
+all_coded (c ∷ xs) ps x hx below coded =
+    subst (λ (zs : List ℕ). Zeros (zs ++ bytes_of 16 (fold absorbed (absorbed x c) xs))) (append_assoc ps (c ∷ []) xs)
+    (all_coded xs (ps ++ c ∷ []) (absorbed x c) (absorbed_below x c hx (below 0)) (λ k. below (suc k)) (turn_coded ps x c hx (below 0) coded))
 
-pub stands_more : (xs : List ℕ) (i k x c : ℕ) → k ≡ i + 1 → i < length xs → c ≡ get_or xs i 0 → c < 256 → Stands xs i x → Stands xs k (absorbed x c)
-stands_more xs i k x c e h ec hc s =
-    let P : List ℕ → Type 0 = λ ps. Zeros (ps ++ bytes_of 16 (absorbed x c)) in (
-      absorbed_below x c s.0 hc,
-      subst P (ap (λ (b : ℕ). take i xs ++ b ∷ []) ec ∙ sym (take_more xs i 0 h) ∙ ap (λ (n : ℕ). take n xs) (sym e))
-          (turn_coded (take i xs) x c s.0 hc s.1),
-    )
-
-pub stands_four : (xs : List ℕ) (i x a b c d : ℕ) → i + 3 < length xs
-    → a ≡ get_or xs i 0 → b ≡ get_or xs (i + 1) 0 → c ≡ get_or xs (i + 2) 0 → d ≡ get_or xs (i + 3) 0
-    → a < 256 → b < 256 → c < 256 → d < 256 → Stands xs i x → Stands xs (i + 4) (absorbed (absorbed (absorbed (absorbed x a) b) c) d)
-stands_four xs i x a b c d h ea eb ec ed ha hb hc hd s =
-    let s1 = stands_more xs i (i + 1) x a refl (omega arith) ea ha s in
-    let s2 = stands_more xs (i + 1) (i + 2) (absorbed x a) b (omega arith) (omega arith) eb hb s1 in
-    let s3 = stands_more xs (i + 2) (i + 3) (absorbed (absorbed x a) b) c (omega arith) (omega arith) ec hc s2 in
-    stands_more xs (i + 3) (i + 4) (absorbed (absorbed (absorbed x a) b) c) d (omega arith) (omega arith) ed hd s3
+-- four at a time, and then the rest, are all of them
+pub fours_then_rest : {A : Type 0} (f : ℕ → A → ℕ) (k : ℕ) (s : ℕ) (xs : List A) → fold f (fold (fold f) s (first_chunks 4 k xs)) (drop (k * 4) xs) ≡ fold f s xs
+fours_then_rest f zero s xs = let e : zero * 4 ≡ 0 = omega arith in ap (λ (n : ℕ). fold f s (drop n xs)) e
+fours_then_rest f (suc k) s xs =
+    let e : suc k * 4 ≡ 4 + k * 4 = omega arith in
+    ap (λ (n : ℕ). fold f (fold (fold f) (fold f s (take 4 xs)) (first_chunks 4 k (drop 4 xs))) (drop n xs)) e
+    ∙ ap (fold f (fold (fold f) (fold f s (take 4 xs)) (first_chunks 4 k (drop 4 xs)))) (sym (drop-drop (k * 4) 4 xs))
+    ∙ fours_then_rest f k (fold f s (take 4 xs)) (drop 4 xs)
+    ∙ sym (fold-append f s (take 4 xs) (drop 4 xs)) ∙ ap (fold f s) (take-append-drop 4 xs)

@@ -1,72 +1,54 @@
 // The remainder by the generator polynomial of the code with sixteen check bytes, four bytes at a step.
 #![tactic(auto)]
 
-ghost use Rattle.std.specs.Prelude.{◌≡◌, ℕ, ◌<◌, ◌++◌, Decides};
-ghost use Rattle.remainder.specs.Register.{SameValues, Zeros, absorbed, bytes_of, combined, rows, rows1, rows2, rows3};
+ghost use Rattle.std.specs.Prelude.{◌≡◌, ℕ, ◌<◌, ◌++◌, fold};
+ghost use Rattle.remainder.specs.Register.{SameValues, Zeros, absorbed, bytes_of, combined, rows_after};
 
 mod multiples;
 
-use multiples::{MULTIPLES, MULTIPLES_1, MULTIPLES_2, MULTIPLES_3};
+use multiples::MULTIPLES;
 
-// The low sixteen bytes of `f` times the generator polynomial.
-fn multiple(f: u8) -> u128
-    ensures { result ≡ combined rows f }
+// The low sixteen bytes of `f` times the generator polynomial, after as many more shifts of the register.
+fn multiple(shifts: usize, f: u8) -> u128
+    requires { shifts < 4 }
+    ensures { result ≡ combined (rows_after shifts) f }
 {
-    MULTIPLES[f as usize]
-}
-
-// The same after one, two and three more shifts of the register.
-fn multiple_1(f: u8) -> u128
-    ensures { result ≡ combined rows1 f }
-{
-    MULTIPLES_1[f as usize]
-}
-
-fn multiple_2(f: u8) -> u128
-    ensures { result ≡ combined rows2 f }
-{
-    MULTIPLES_2[f as usize]
-}
-
-fn multiple_3(f: u8) -> u128
-    ensures { result ≡ combined rows3 f }
-{
-    MULTIPLES_3[f as usize]
+    MULTIPLES[shifts][f as usize]
 }
 
 // The register after one byte more.
 fn absorb(state: u128, byte: u8) -> u128
     ensures { result ≡ absorbed state byte }
 {
-    (state << 8) ^ multiple((state >> 120) as u8 ^ byte)
+    (state << 8) ^ multiple(0, (state >> 120) as u8 ^ byte)
 }
 
 // Four bytes at once.
-fn absorb_four(state: u128, a: u8, b: u8, c: u8, d: u8) -> u128
-    ensures { result ≡ absorbed (absorbed (absorbed (absorbed state a) b) c) d }
+fn absorb_four(state: u128, bytes: &[u8; 4]) -> u128
+    ensures { result ≡ fold absorbed state bytes.now }
 {
+    let [a, b, c, d] = *bytes;
     (state << 32)
-        ^ multiple_3((state >> 120) as u8 ^ a)
-        ^ multiple_2(((state >> 112) % 256) as u8 ^ b)
-        ^ multiple_1(((state >> 104) % 256) as u8 ^ c)
-        ^ multiple(((state >> 96) % 256) as u8 ^ d)
+        ^ multiple(3, (state >> 120) as u8 ^ a)
+        ^ multiple(2, ((state >> 112) % 256) as u8 ^ b)
+        ^ multiple(1, ((state >> 104) % 256) as u8 ^ c)
+        ^ multiple(0, ((state >> 96) % 256) as u8 ^ d)
+}
+
+// The register after all of the bytes.
+fn absorb_all(bytes: &[u8]) -> u128
+    ensures { result ≡ fold absorbed 0 bytes.now }
+{
+    let (fours, rest) = bytes.as_chunks::<4>();
+    let state = fours.iter().fold(0, |state, four| absorb_four(state, four));
+    rest.iter().fold(state, |state, byte| absorb(state, *byte))
 }
 
 // The check bytes, as one number: the bytes followed by these sixteen are zero at alpha^0 to alpha^15.
 pub fn remainder(bytes: &[u8]) -> u128
     ensures { Zeros (bytes.now ++ bytes_of 16 result) }
 {
-    let mut state = 0u128;
-    let mut i = 0usize;
-    while bytes.len() - i >= 4 {
-        state = absorb_four(state, bytes[i], bytes[i + 1], bytes[i + 2], bytes[i + 3]);
-        i += 4;
-    }
-    while i < bytes.len() {
-        state = absorb(state, bytes[i]);
-        i += 1;
-    }
-    state
+    absorb_all(bytes)
 }
 
 // Sixteen bytes, as one number, with the same values at alpha^0 to alpha^15 as the front followed by the check bytes: 0 exactly if these are zero.

@@ -4,5 +4,5 @@ use Rattle.reed_solomon.proofs.bytes.correct_bytes.Goals as goal
 
 pub returns : goal.returns
 returns c =
-    let h = c.decide_bytes.ensures in
+    let h = c.decide.ensures in
     record { corrected = h; late = late_refused bytes_lawful _ _ _ h; early = early_begins bytes_lawful _ _ _ h }

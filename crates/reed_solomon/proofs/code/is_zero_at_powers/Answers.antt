@@ -9,6 +9,6 @@ loop-k-preserved g c =
     let A = g.F.Field.ops in
     let v = c.loop-k.invariant in
     let at : ℕ → ℕ = λ x. horner (plain A) x 0 c.args.word.now in (
-      next_power A g.met.F.Field.lawful c.args.first c.loop-k._k _ _ _ c.product-x.ensures c.generator.ensures v.0,
+      next_power A g.met.F.Field.lawful c.args.first c.loop-k._k _ _ _ c.product-x.ensures (c.ALPHA.ensures ∙ g.met.F.Field.alpha) v.0,
       below_more (λ j. at (A.pow (c.args.first + j)) ≡ 0) c.loop-k._k v.1 (ap at (sym v.0) ∙ sym c.evaluate.ensures ∙ c.if-evaluate-ne0.false),
     )

@@ -1,16 +1,17 @@
-use Rattle.std.proofs.Common.{arith}
-use Rattle.reed_solomon.proofs.Differing.{differ_same, differ_other, differ_end}
+use Rattle.std.proofs.Common.{◌≡◌, ℕ, List, length, filter, ◌∙◌, rules}
+use borrow.Author.Tests.{tests}
+use Rattle.std.proofs.lemmas.Iterator.{YieldsList-from_slice, YieldsList-from_zip}
+use Rattle.std.proofs.lemmas.Iterator.Consumers.{YieldsList-from_filter, YieldsList-at, count_from_yields_List}
+use Rattle.std.specs.List.{zip}
+use Rattle.reed_solomon.proofs.Differing.{apart, differ_count}
 use Rattle.reed_solomon.proofs.corrector.distance.Goals as goal
-use Rattle.reed_solomon.proofs.corrector.distance.Goals.{then-a-i, else-a-i}
-
-pub loop-i-preserved : goal.loop-i-preserved
-loop-i-preserved c =
-    elim c.if-a-i.branch [
-      | then-a-i w ↦
-          (omega (arith, w.count-is), differ_other c.args.a.now c.args.b.now c.loop-i.i c.loop-i.count _ _ (omega arith) (omega arith) c.loop-i.invariant.1 w.if-a-i.true w.count-is)
-      | else-a-i w ↦
-          (omega (arith, w.count-is), differ_same c.args.a.now c.args.b.now c.loop-i.i c.loop-i.count _ _ (omega arith) (omega arith) c.loop-i.invariant.1 w.if-a-i.false w.count-is)
-    ]
 
 pub returns : goal.returns
-returns c = differ_end c.args.a.now c.args.b.now c.loop-i.i c.loop-i.count _ (omega arith) c.loop-i.invariant.1
+returns c =
+    let a : List ℕ = c.args.a.now in
+    let b : List ℕ = c.args.b.now in
+    let chain : c.count.result ≡ length (filter apart (zip a b)) =
+    count_from_yields_List c.filter.result c.count.result c.count.ensures.ran
+    (YieldsList-from_filter _ apart (YieldsList-at c.filter.ensures.source (YieldsList-from_zip (YieldsList-from_slice a (cc)) (YieldsList-from_slice b (cc)))) c.filter.ensures.closure
+    (λ x t q k. search (rules, tests))) in
+    chain ∙ differ_count a b

@@ -1,25 +1,26 @@
-use Rattle.std.proofs.Common.{◌≡◌, ℕ, suc, ◌-◌, ◌≤◌, List, length, drop, ap, ◌∙◌, ap₂, arith, length-drop}
-use Rattle.std.proofs.lemmas.List.{take_all}
+use Rattle.std.proofs.Common.{ℕ, ◌+◌, List, get_or, drop, replicate, sym, ap, ◌∙◌}
+use Rattle.std.proofs.lemmas.List.{at_drop_more, at_drop_all}
 use Rattle.coding_theory.specs.Algebra.{plain}
-use Rattle.coding_theory.specs.Register.{checks, divided}
-use Rattle.coding_theory.proofs.Register.{length_generator}
+use Rattle.coding_theory.specs.Register.{checks, divided, fed}
 use Rattle.reed_solomon.proofs.encoder.check.Goals as goal
+
+pub loop-symbol-preserved : goal.loop-symbol-preserved
+loop-symbol-preserved g c =
+    let K = plain g.F.Field.ops in
+    let ts : List ℕ = c.generator.result in
+    let ms : List ℕ = c.args.message.now in
+    let i = c.loop-symbol.symbol-index in
+    let v = c.loop-symbol.invariant in (
+      c.feed.ensures.tail ∙ v.0,
+      ap (λ (r : List ℕ). divided K ts r (drop (i + 1) ms)) (c.feed.ensures.register ∙ ap (λ (t : List ℕ). fed K t c.loop-symbol.division.register (get_or ms i 0)) v.0)
+          ∙ sym (at_drop_more (divided K ts c.loop-symbol.division.register) ms i 0 c.loop-symbol-test.true) ∙ v.1,
+    )
 
 pub returns : goal.returns
 unfolding checks
 returns g c =
     let K = plain g.F.Field.ops in
-    let gs : List ℕ = c.generator.new.g in
-    let few : length (drop 1 gs) ≤ length gs - 1 = simp length-drop (omega arith) in
-    c.divide.ensures
-    ∙ ap₂ (λ (ts r : List ℕ). divided K ts r c.args.message.now) (take_all (length gs - 1) (drop 1 gs) few ∙ ap (drop 1) c.generator.ensures) c.requires.register_value
-
-pub generator-requires : goal.generator-requires
-generator-requires g c = c.requires.g_value
-
-pub divide-requires : goal.divide-requires
-divide-requires g c =
-    let gs : List ℕ = c.generator.new.g in
-    let few : length (drop 1 gs) ≤ length gs - 1 = simp length-drop (omega arith) in
-    let len : length gs ≡ suc (length c.args.register.now) = ap length c.generator.ensures ∙ length_generator (plain g.F.Field.ops) _ (length c.args.register.now) (length c.args.register.now) in
-    record { tail_len = ap length (take_all (length gs - 1) (drop 1 gs) few) ∙ length-drop 1 gs ∙ omega arith; register_nonzero = c.requires.register_nonzero }
+    let ts : List ℕ = c.generator.result in
+    let ms = c.args.message.now in
+    sym (at_drop_all (divided K ts c.loop-symbol.division.register) ms c.loop-symbol.symbol-index c.loop-symbol-test.false)
+    ∙ c.loop-symbol.invariant.1 ∙ ap (λ (t : List ℕ). divided K t (replicate g.row.N 0) ms) (ap (drop 1) c.generator.ensures)

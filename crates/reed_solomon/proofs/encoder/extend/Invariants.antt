@@ -1,9 +1,10 @@
-use Rattle.std.proofs.Common.{◌≡◌, ℕ, ◌-◌, ◌<◌, ◌≤◌, get_or}
+use Rattle.std.proofs.Common.{◌≡◌, ℕ, ◌<◌, ◌≤◌, ◌∷◌, get_or}
 use Rattle.coding_theory.specs.Algebra.{plain}
-use Rattle.coding_theory.specs.Register.{extended}
+use Rattle.coding_theory.specs.Register.{mixed}
 use Rattle.reed_solomon.proofs.encoder.extend.Given as goal
 
-abbrev pub invariant-loop-i : goal.invariant-loop-i
-invariant-loop-i g l =
-    ((k : ℕ) → k < l.i → get_or l.g k 0 ≡ get_or (extended (plain g.F.Field.ops) l.a l.initial.g) k 0)
-    × ((k : ℕ) → l.i ≤ k → get_or l.g k 0 ≡ get_or l.initial.g k 0) × (l.prev ≡ get_or l.initial.g (l.i - 1) 0)
+abbrev pub invariant-loop-coefficient : goal.invariant-loop-coefficient
+invariant-loop-coefficient g l =
+    let i = l.coefficient-index in
+    ((k : ℕ) → k < i → get_or l.tail k 0 ≡ get_or (mixed (plain g.F.Field.ops) l.a 1 l.initial.tail) k 0)
+    × ((k : ℕ) → i ≤ k → get_or l.tail k 0 ≡ get_or l.initial.tail k 0) × (l.before ≡ get_or (1 ∷ l.initial.tail) i 0)

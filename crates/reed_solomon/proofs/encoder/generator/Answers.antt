@@ -10,6 +10,6 @@ loop-k-preserved g c =
     let k = c.loop-k._k in
     let e : suc k ≡ k + 1 = omega arith in
     let v = c.loop-k.invariant in (
-      next_power A g.met.F.Field.lawful c.args.first k _ _ _ c.product-x.ensures c.generator.ensures v.0,
-      c.extend.ensures ∙ ap₂ (extended (plain A)) v.0 v.1 ∙ ap (generator (plain A) (λ j. A.pow (c.args.first + j)) c.args.count) e,
+      next_power A g.met.F.Field.lawful c.args.first k _ _ _ c.product-x.ensures (c.ALPHA.ensures ∙ g.met.F.Field.alpha) v.0,
+      c.extend.ensures ∙ ap₂ (extended (plain A)) v.0 v.1 ∙ ap (generator (plain A) (λ j. A.pow (c.args.first + j)) g.row.N) e,
     )

@@ -43,7 +43,7 @@ loop-p-preserved g c =
     let e : n - p ≡ n - suc (p - 1) = omega arith in
     let s : suc (n - p) ≡ n - (p - 1) = omega arith in
     let here : c.evaluate.result ≡ horner (plain A) (X (p - 1)) 0 c.args.con.now = c.evaluate.ensures ∙ ap (λ (x : ℕ). horner (plain A) x 0 c.args.con.now) (v.2 ∙ ap A.pow e) in
-    let next : c.product-x.result ≡ A.pow (n - (p - 1)) = c.product-x.ensures ∙ ap₂ A.mul c.generator.ensures v.2 ∙ sym (g.met.F.Field.lawful.pow_suc (n - p)) ∙ ap A.pow s in
+    let next : c.product-x.result ≡ A.pow (n - (p - 1)) = c.product-x.ensures ∙ ap₂ A.mul (c.ALPHA.ensures ∙ g.met.F.Field.alpha) v.2 ∙ sym (g.met.F.Field.lawful.pow_suc (n - p)) ∙ ap A.pow s in
     elim c.if-evaluate-eq0.branch [
       | then-evaluate-eq0+else-start-eq0 w ↦ (
         omega arith,

@@ -1,5 +1,5 @@
 use Rattle.std.proofs.Common.{sym, ap, ◌∙◌, ap₂, ⊎_elim, lit≤}
-use Rattle.coding_theory.specs.Galois.{mul}
+use Rattle.coding_theory.specs.Galois.{mul, pow}
 use Rattle.coding_theory.proofs.Operations.{mul_pow, mul_zero_left, mul_zero_right}
 use Rattle.coding_theory.proofs.Fields.{sound_256}
 use Rattle.reed_solomon.proofs.table.Table256Field.product.Goals as goal
@@ -11,5 +11,5 @@ returns-then-b-eq0 c =
 
 pub returns-else-b-eq0 : goal.returns-else-b-eq0
 returns-else-b-eq0 c =
-    c.power_at.ensures ∙ mul_pow 8 285 (lit≤ tt) sound_256 c.exponent_of.result c.exponent_of-else-b-eq0.result
+    c.power_at.ensures ∙ ap (pow 8 285) c.reduced.ensures ∙ mul_pow 8 285 (lit≤ tt) sound_256 c.exponent_of.result c.exponent_of-else-b-eq0.result
     ∙ ap₂ (mul 8 285) c.exponent_of.ensures.1 c.exponent_of-else-b-eq0.ensures.1

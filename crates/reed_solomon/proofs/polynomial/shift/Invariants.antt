@@ -1,0 +1,5 @@
+use Rattle.std.proofs.Common.{◌≡◌, ℕ, ◌<◌, ◌≤◌, ◌∷◌, get_or}
+use Rattle.reed_solomon.proofs.polynomial.shift.Given as goal
+
+abbrev pub invariant-loop-coefficient : goal.invariant-loop-coefficient
+invariant-loop-coefficient l = ((k : ℕ) → k < l.coefficient-index → get_or l.p k 0 ≡ get_or (0 ∷ l.initial.p) k 0) × ((k : ℕ) → l.coefficient-index ≤ k → get_or l.p k 0 ≡ get_or l.initial.p k 0) × (l.carry ≡ get_or (0 ∷ l.initial.p) l.coefficient-index 0)
