@@ -1,11 +1,12 @@
 -- The branches of the interleaver, one step on.
-use Rattle.std.proofs.Common.{◌≡◌, ℕ, zero, suc, ◌+◌, ◌*◌, ◌/◌, ◌%◌, ◌<◌, ◌≤◌, Bool, true, false, cond, ltb, ◌≢◌, List, length, get_or, set, replicate, sym, refl, ap, ◌∙◌, arith, get_or-set_other, get_or-set_same}
+use Rattle.std.proofs.Common.{◌≡◌, ℕ, zero, suc, ◌+◌, ◌*◌, ◌/◌, ◌%◌, ◌<◌, ◌≤◌, ltb, ◌≢◌, List, length, get_or, set, replicate, sym, refl, ap, ◌∙◌, arith, get_or-set_other, get_or-set_same}
 use mathlib.Core.Path.{fun_ext}
+use Rattle.std.proofs.lemmas.Bool.{cond_below, cond_above}
 use native.Mathlib.Decide.{ℕ_discrete, dec_lt}
 use Rattle.delay_line.specs.Line.{laid, silent}
 use Rattle.delay_line.specs.Cells.{start, turned, branch_of, branched, Within}
-use Rattle.delay_line.specs.declared.interleaver.Direction.{Direction}
-use Rattle.delay_line.specs.declared.interleaver.Direction.TheVariants.{Sending, Receiving}
+use Rattle.delay_line.specs.declared.direction.Direction.{Direction}
+use Rattle.delay_line.specs.declared.direction.Direction.TheVariants.{Sending, Receiving}
 use Rattle.delay_line.specs.Landed.{laid_here, laid_away}
 use Rattle.delay_line.proofs.Ringed.{cond_zero, get_or_zeros}
 
@@ -36,18 +37,6 @@ turned_last m a n ha hn = grind arith
 turned_apart : (m a n : ℕ) → a < m → suc n < m → turned m (a + suc n) ≢ a
 turned_apart m a n ha hn = grind arith
 
-cond_on : (t : Bool) (x : ℕ) → t ≡ true → cond t x 0 ≡ x
-cond_on t x e = ap (λ y. cond y x 0) e
-
-cond_off : (t : Bool) (x : ℕ) → t ≡ false → cond t x 0 ≡ 0
-cond_off t x e = ap (λ y. cond y x 0) e
-
-ltb_yes : (a b : ℕ) → a < b → ltb a b ≡ true
-ltb_yes a b h = grind arith
-
-ltb_no : (a b : ℕ) → b ≤ a → ltb a b ≡ false
-ltb_no a b h = grind arith
-
 -- the pending bytes with the byte of slot k laid
 abbrev served : (t : ℕ → ℕ) (cells oldest : List ℕ) → ℕ → ℕ → ℕ → ℕ
 served t cells oldest k b p = laid (branched t cells oldest k) (204 * t (k % 12)) b p
@@ -64,12 +53,12 @@ branching Receiving = record { small = λ x h. omega arith; own = λ x y hx hy e
 branched_on : (t : ℕ → ℕ) (cells oldest : List ℕ) (k p j n : ℕ) → t ((k + p) % 12) ≡ j → p / 12 ≡ n → p < 204 * j
     → branched t cells oldest k p ≡ get_or cells (start j + turned (17 * j) (get_or oldest j 0 + n)) 0
 branched_on t cells oldest k p j n ej en h =
-    cond_on _ _ (ltb_yes p (204 * t ((k + p) % 12)) (omega arith))
+    sym (cond_below p (204 * t ((k + p) % 12)) _ 0 (omega arith))
     ∙ ap (λ y. get_or cells (start y + turned (17 * y) (get_or oldest y 0 + p / 12)) 0) ej
     ∙ ap (λ y. get_or cells (start j + turned (17 * j) (get_or oldest j 0 + y)) 0) en
 
 branched_off : (t : ℕ → ℕ) (cells oldest : List ℕ) (k p : ℕ) → 204 * t ((k + p) % 12) ≤ p → branched t cells oldest k p ≡ 0
-branched_off t cells oldest k p h = cond_off _ _ (ltb_no p (204 * t ((k + p) % 12)) h)
+branched_off t cells oldest k p h = sym (cond_above p (204 * t ((k + p) % 12)) _ 0 0 h refl)
 
 pub branched_zeros : (t : ℕ → ℕ) (oldest : List ℕ) (k : ℕ) → branched t (replicate 1122 0) oldest k ≡ silent
 branched_zeros t oldest k = fun_ext (λ p. cond_zero (ltb p (204 * t ((k + p) % 12)))

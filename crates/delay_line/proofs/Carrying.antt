@@ -3,6 +3,13 @@ use Rattle.std.proofs.Common.{◌≡◌, ℕ, ◌+◌, ◌<◌, ◌≤◌, List,
 use Rattle.std.proofs.lemmas.List.{append_assoc, append-nil, take_more_set, take_all, drop_all, drop_more, drop-set-lt, drop-drop, get_or-drop}
 use Rattle.delay_line.specs.Line.{Line, passed, onward, carried, after_all}
 
+-- the same step under another name of the delays
+pub passed_same : {v w : ℕ → ℕ} {r : ℕ} (h : Line) (x : ℕ) → v ≡ w → r ≡ passed v h x → r ≡ passed w h x
+passed_same h x ew e = e ∙ ap (λ u. passed u h x) ew
+
+pub onward_same : {v w : ℕ → ℕ} {h' : Line} (h : Line) (x : ℕ) → v ≡ w → h' ≡ onward v h x → h' ≡ onward w h x
+onward_same h x ew e = e ∙ ap (λ u. onward u h x) ew
+
 -- one more byte: bs is the slice, xs as it was, and from i on they agree
 module _ (w : ℕ → ℕ) (xs bs : List ℕ) (i : ℕ) (lt : i < length xs) (len : length bs ≡ length xs) (rest : drop i bs ≡ drop i xs) where
   next_byte : get_or bs i 0 ≡ get_or xs i 0

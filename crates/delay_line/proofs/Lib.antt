@@ -3,3 +3,4 @@ pub mod Carrying
 pub mod Branches
 pub mod OneToOne
 pub mod Runs
+pub mod FreshSeries

@@ -1,7 +1,7 @@
 -- Where delay lines keep the bytes under way.
 use Rattle.std.specs.Prelude.{ℕ, zero, suc, ◌+◌, ◌-◌, ◌*◌, ◌/◌, ◌%◌, ◌<◌, cond, List, nat_lt, slice_index}
-use Rattle.delay_line.specs.declared.interleaver.Direction.{Direction}
-use Rattle.delay_line.specs.declared.interleaver.Direction.TheVariants.{Sending, Receiving}
+use Rattle.delay_line.specs.declared.direction.Direction.{Direction}
+use Rattle.delay_line.specs.declared.direction.Direction.TheVariants.{Sending, Receiving}
 
 -- the same delay at each slot
 abbrev pub always : ℕ → ℕ → ℕ
@@ -39,3 +39,8 @@ branched t cells oldest k p =
 -- the oldest byte of each branch is in one of its cells
 abbrev pub Within : List ℕ → Type 0
 Within oldest = (j : ℕ) → j < 12 → 0 < j → slice_index oldest j < 17 * j
+
+-- the delay of a board of d places, sending, and receiving what is left of one frame
+abbrev pub places_of : Direction → ℕ → ℕ
+places_of Sending d = d
+places_of Receiving d = 204 - d

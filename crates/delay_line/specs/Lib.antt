@@ -4,3 +4,5 @@ pub mod Refusals
 pub mod Laws
 pub mod InSeries
 pub mod Landed
+pub mod Fresh
+pub mod Halves

@@ -1,6 +1,7 @@
 // Two delay lines in series.
 ghost use Rattle.std.specs.Prelude.{◌≡◌, ℕ, ◌+◌};
-ghost use Rattle.delay_line.specs.Line.{series, silent, through_both};
+ghost use Rattle.delay_line.specs.Fresh.{IsFresh};
+ghost use Rattle.delay_line.specs.Line.{series, through_both};
 ghost use Rattle.delay_line.specs.InSeries.{series_delays};
 
 use crate::line::DelayLine;
@@ -16,9 +17,8 @@ pub struct Cascade<A: DelayLine, B: DelayLine> {
 impl<A: DelayLine, B: DelayLine> Cascade<A, B> {
     // The two in series, both cleared.
     pub fn new(mut first: A, mut second: B) -> Cascade<A, B>
-        ensures delays { (A.DelayLine.delay result.first ≡ A.DelayLine.delay first) × (B.DelayLine.delay result.second ≡ B.DelayLine.delay second) }
-        ensures span { (A.DelayLine.frames result.first ≡ A.DelayLine.frames first) × (B.DelayLine.frames result.second ≡ B.DelayLine.frames second) }
-        ensures empty { (A.DelayLine.pending result.first 0 ≡ silent) × (B.DelayLine.pending result.second 0 ≡ silent) }
+        ensures first { IsFresh A.DelayLine result.first (A.DelayLine.delay first) (A.DelayLine.frames first) }
+        ensures second { IsFresh B.DelayLine result.second (B.DelayLine.delay second) (B.DelayLine.frames second) }
     {
         first.clear();
         second.clear();
@@ -46,7 +46,6 @@ impl<A: DelayLine, B: DelayLine> DelayLine for Cascade<A, B> {
     }
 
     fn lag(&self) -> u16 {
-        let sum = self.first.lag() + self.second.lag();
-        if sum < 4095 { sum } else { 4095 }
+        (self.first.lag() + self.second.lag()).min(4095)
     }
 }

@@ -5,17 +5,11 @@ ghost use Rattle.std.specs.Prelude.{◌≡◌, suc, ◌+◌, ◌*◌, ◌%◌, �
 ghost use Rattle.delay_line.specs.Cells.{Within, branch_of, branched, start, turned, twelfths};
 ghost use Rattle.std.proofs.Common.{rules, arith};
 
+use crate::direction::Direction;
 use crate::line::DelayLine;
 use crate::slot::Slot;
 
-// Which of the two halves.
-#[derive(Clone, Copy)]
-pub enum Direction {
-    Sending,
-    Receiving,
-}
-
-// Where the cells of each branch begin: branch j has 17 j of them.
+// Where the cells of each branch begin: branch j has 17 j of them. All lie in one array, since memory is fixed and the branches differ in length.
 const STARTS: [usize; 12] = [0, 0, 17, 51, 102, 170, 255, 357, 476, 612, 765, 935];
 
 // A byte waits in the branch of its slot until that has been served as often as it has cells.
@@ -50,14 +44,16 @@ impl Interleaver {
     }
 }
 
-// The branch of a slot.
-fn branch_of(direction: Direction, slot: u8) -> usize
-    ensures { (result ≡ branch_of direction (slot % 12)) × (result < 12) }
-{
-    let row = (slot % 12) as usize;
-    match direction {
-        Direction::Sending => row,
-        Direction::Receiving => 11 - row,
+impl Direction {
+    // The branch of a slot.
+    fn branch(self, slot: Slot) -> usize
+        ensures { (result ≡ branch_of self (slot.number % 12)) × (result < 12) }
+    {
+        let row = (slot.number() % 12) as usize;
+        match self {
+            Direction::Sending => row,
+            Direction::Receiving => 11 - row,
+        }
     }
 }
 
@@ -71,7 +67,7 @@ impl DelayLine for Interleaver {
     ghost delays = { first_of (Prim.search rules, Prim.grind (arith, Self.row.coded.inj)) };
 
     fn pass(&mut self, slot: Slot, byte: u8) -> u8 {
-        let branch = branch_of(self.direction, slot.number());
+        let branch = self.direction.branch(slot);
         if branch == 0 {
             byte
         } else {

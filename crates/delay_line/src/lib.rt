@@ -4,6 +4,7 @@
 mod board;
 mod cascade;
 mod delay;
+mod direction;
 mod half;
 mod interleaver;
 mod laws;
@@ -17,14 +18,16 @@ mod trip;
 pub use board::{BoardDelay, DelayRefusal};
 pub use cascade::Cascade;
 pub use delay::Delay;
+pub use direction::Direction;
 pub use half::Half;
 pub use interleaver::Interleaver;
 pub use laws::{
     cascades_are_one, fresh_runs_are_known, round_trips_return, schemes_have_their_delays,
+    stacks_have_their_delays,
 };
 pub use line::DelayLine;
 pub use scheme::{Interleaving, NoDelay, Scheme};
 pub use slot::Slot;
 pub use stack::Stack;
 pub use straight::Straight;
-pub use trip::{carry_cascade, receive, receive_stack, round_trip, send, send_stack};
+pub use trip::{carry_cascade, receive, round_trip, send};

@@ -1,17 +1,19 @@
 // Delay schemes, of which any number of sending and receiving halves are made.
 ghost use Rattle.std.specs.Prelude.{◌≡◌, ℕ, ◌-◌};
 ghost use Rattle.delay_line.specs.Cells.{always, twelfths};
+ghost use Rattle.delay_line.specs.Fresh.{IsFresh};
 ghost use Rattle.delay_line.specs.Line.{Delays, Undoes, silent};
-ghost use Rattle.delay_line.specs.declared.interleaver.Direction.TheVariants.{Sending as to_send, Receiving as to_receive};
+ghost use Rattle.delay_line.specs.declared.direction.Direction.TheVariants.{Sending as to_send, Receiving as to_receive};
 ghost use Rattle.std.proofs.Common.{rules, arith};
 
 use crate::board::BoardDelay;
 use crate::delay::Delay;
+use crate::direction::Direction;
 use crate::interleaver::Interleaver;
 use crate::line::DelayLine;
 use crate::straight::Straight;
 
-// Sending and receiving delays that belong to one another.
+// Sending and receiving delays that belong to one another. The two halves have a method each, since they may differ in type, as those of a stack do.
 pub trait Scheme {
     type Sending: DelayLine + Drop;
 
@@ -28,15 +30,11 @@ pub trait Scheme {
 
     // A sending line in which nothing is pending.
     fn sending(&self) -> Self::Sending
-        ensures delays { Self.Sending.DelayLine.delay result ≡ sends self.now }
-        ensures span { Self.Sending.DelayLine.frames result ≡ spans self.now }
-        ensures empty { Self.Sending.DelayLine.pending result 0 ≡ silent };
+        ensures { IsFresh Self.Sending.DelayLine result (sends self.now) (spans self.now) };
 
     // A receiving line in which nothing is pending.
     fn receiving(&self) -> Self::Receiving
-        ensures delays { Self.Receiving.DelayLine.delay result ≡ receives self.now }
-        ensures span { Self.Receiving.DelayLine.frames result ≡ spans self.now }
-        ensures empty { Self.Receiving.DelayLine.pending result 0 ≡ silent };
+        ensures { IsFresh Self.Receiving.DelayLine result (receives self.now) (spans self.now) };
 
     ghost delays: { (s : Self) → Delays (sends s) (spans s) };
 
@@ -44,7 +42,7 @@ pub trait Scheme {
 }
 
 // Every byte goes straight through.
-#[derive(Clone, Copy)]
+#[derive(Clone, Copy, Debug, PartialEq, Eq)]
 pub struct NoDelay;
 
 impl Scheme for NoDelay {
@@ -87,16 +85,16 @@ impl Scheme for BoardDelay {
     ghost undoes = { first_of (Prim.search rules, Prim.grind (arith, Self.row.coded.inj)) };
 
     fn sending(&self) -> Delay {
-        Delay::sending(*self)
+        Delay::new(*self, Direction::Sending)
     }
 
     fn receiving(&self) -> Delay {
-        Delay::receiving(*self)
+        Delay::new(*self, Direction::Receiving)
     }
 }
 
 // The interleaver.
-#[derive(Clone, Copy)]
+#[derive(Clone, Copy, Debug, PartialEq, Eq)]
 pub struct Interleaving;
 
 impl Scheme for Interleaving {
@@ -115,10 +113,10 @@ impl Scheme for Interleaving {
     ghost undoes = { Prim.search rules };
 
     fn sending(&self) -> Interleaver {
-        Interleaver::sending()
+        Interleaver::new(Direction::Sending)
     }
 
     fn receiving(&self) -> Interleaver {
-        Interleaver::receiving()
+        Interleaver::new(Direction::Receiving)
     }
 }

@@ -8,7 +8,7 @@ use crate::line::DelayLine;
 use crate::slot::Slot;
 
 // Answers each byte at once.
-#[derive(Clone, Copy)]
+#[derive(Clone, Copy, Debug, PartialEq, Eq)]
 pub struct Straight;
 
 impl DelayLine for Straight {

@@ -8,15 +8,22 @@ use crate::cascade::Cascade;
 use crate::half::Half;
 use crate::line::DelayLine;
 use crate::scheme::Scheme;
-use crate::stack::Stack;
+
+// Replaces the bytes by what a fresh half of this line answers to them.
+fn run<D: DelayLine + Drop>(line: D, bytes: &mut [u8])
+    ensures answers { bytes.new ≡ carried (D.DelayLine.delay line) fresh_line bytes.old }
+    ensures places { DelayedBy (D.DelayLine.delay line) bytes.old bytes.new }
+{
+    let mut half = Half::new(line);
+    half.carry(bytes);
+}
 
 // Replaces the bytes by what a fresh sending half answers to them.
 pub fn send<S: Scheme>(scheme: &S, bytes: &mut [u8])
     ensures answers { bytes.new ≡ carried (S.Scheme.sends scheme.now) fresh_line bytes.old }
     ensures places { DelayedBy (S.Scheme.sends scheme.now) bytes.old bytes.new }
 {
-    let mut sender = Half::new(scheme.sending());
-    sender.carry(bytes);
+    run(scheme.sending(), bytes);
 }
 
 // Replaces the bytes by what a fresh receiving half answers to them.
@@ -24,8 +31,7 @@ pub fn receive<S: Scheme>(scheme: &S, bytes: &mut [u8])
     ensures answers { bytes.new ≡ carried (S.Scheme.receives scheme.now) fresh_line bytes.old }
     ensures places { DelayedBy (S.Scheme.receives scheme.now) bytes.old bytes.new }
 {
-    let mut receiver = Half::new(scheme.receiving());
-    receiver.carry(bytes);
+    run(scheme.receiving(), bytes);
 }
 
 // There and back: each byte comes out as many frames later as the scheme lags, whatever its slot.
@@ -46,23 +52,8 @@ pub fn carry_cascade<A: DelayLine + Drop, B: DelayLine + Drop>(
     ensures lag { result ≡ min (A.DelayLine.frames first + B.DelayLine.frames second) 4095 }
     ensures two { bytes.new ≡ carried (B.DelayLine.delay second) fresh_line (carried (A.DelayLine.delay first) fresh_line bytes.old) }
 {
-    let mut both = Half::new(Cascade::new(first, second));
-    both.carry(bytes);
-    both.lag()
-}
-
-// Sends through a stack: the upper delays first, then the lower.
-pub fn send_stack<A: Scheme, B: Scheme>(stack: &Stack<A, B>, bytes: &mut [u8])
-    ensures { bytes.new ≡ carried (series (A.Scheme.sends stack.now.upper) (B.Scheme.sends stack.now.lower)) fresh_line bytes.old }
-{
-    let mut upper_first = Half::new(stack.sending());
-    upper_first.carry(bytes);
-}
-
-// Receives through a stack: the lower delays first, then the upper.
-pub fn receive_stack<A: Scheme, B: Scheme>(stack: &Stack<A, B>, bytes: &mut [u8])
-    ensures { bytes.new ≡ carried (series (B.Scheme.receives stack.now.lower) (A.Scheme.receives stack.now.upper)) fresh_line bytes.old }
-{
-    let mut lower_first = Half::new(stack.receiving());
-    lower_first.carry(bytes);
+    let both = Cascade::new(first, second);
+    let lag = both.lag();
+    run(both, bytes);
+    lag
 }

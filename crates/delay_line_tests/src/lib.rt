@@ -4,7 +4,8 @@
 #[cfg(test)]
 mod tests {
     use delay_line::{
-        BoardDelay, Cascade, DelayLine, Half, Interleaver, Interleaving, Scheme, Slot, Stack, send,
+        BoardDelay, Cascade, DelayLine, Direction, Half, Interleaver, Interleaving, Scheme, Slot,
+        Stack, send,
     };
     use std::test::Fail;
 
@@ -24,10 +25,7 @@ mod tests {
 
     #[test]
     fn board_over_interleaver(rt: HostRuntime) -> Result<(), Fail> {
-        let Ok(one) = BoardDelay::new(1) else {
-            assert_eq!(rt; 1, 2);
-            return Ok(());
-        };
+        let one = BoardDelay::try_from(1)?;
         let stack = Stack::new(one, Interleaving);
         let mut bytes = [0u8; 408];
         bytes[0] = 7;
@@ -40,25 +38,24 @@ mod tests {
         Ok(())
     }
 
-    // the refusal's number, or 0
-    fn refusal(places: u32) -> u32 {
-        match BoardDelay::new(places) {
-            Ok(_) => 0,
-            Err(refusal) => refusal.number(),
-        }
+    // the number of the refusal, if there is one
+    fn refusal(places: u32) -> Option<u32> {
+        BoardDelay::try_from(places)
+            .err()
+            .map(|refusal| refusal.number())
     }
 
     #[test]
     fn longest_board_delay(rt: HostRuntime) {
-        assert_eq!(rt; refusal(203), 0);
-        assert_eq!(rt; refusal(204), 2);
-        assert_eq!(rt; refusal(u32::MAX), 2);
+        assert_eq!(rt; refusal(203), None);
+        assert_eq!(rt; refusal(204), Some(2));
+        assert_eq!(rt; refusal(u32::MAX), Some(2));
     }
 
     // a line whose next byte at slot 1 is 7
     fn used() -> Interleaver {
-        let mut line = Interleaver::sending();
-        for _i in 0..17u32 {
+        let mut line = Interleaver::new(Direction::Sending);
+        for _ in 0..17 {
             line.pass(Slot::first().next(), 7);
         }
         line

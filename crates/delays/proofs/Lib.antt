@@ -1,3 +1,3 @@
-pub mod Filled
+pub mod Agreeing
 pub mod Alone
 pub mod Returned

@@ -1,15 +1,15 @@
 -- Numbered bytes there and back.
-use Rattle.std.proofs.Common.{◌≡◌, ℕ, ◌+◌, ◌-◌, ◌*◌, ◌<◌, ◌≤◌, min, List, length, get_or, take, drop, sym, refl, ap, ◌∙◌, arith, length-drop}
+use Rattle.std.proofs.Common.{◌≡◌, ℕ, ◌+◌, ◌-◌, ◌*◌, ◌<◌, ◌≤◌, min, nat_eq, List, length, get_or, take, drop, sym, refl, ap, ◌∙◌, arith, length-drop}
 use Rattle.std.proofs.lemmas.List.{length-take, get_or-take, get_or-drop}
 use Rattle.delay_line.specs.Cells.{always}
 use Rattle.delay_line.specs.Laws.{DelayedBy}
-use Rattle.delays.specs.Marks.{counted, same_place}
-use Rattle.delays.proofs.Filled.{counted_all, equal}
+use Rattle.delays.specs.Marks.{agreeing_places}
+use Rattle.delays.proofs.Agreeing.{agreeing_all}
 
 -- what comes out from the place `late` on agrees with what went in, all of it
 pub returned : (xs ys : List ℕ) (l n late m : ℕ) → DelayedBy (always (204 * l)) xs ys → length xs ≡ n → late ≡ min (204 * l) n → n - late ≤ m
-    → counted (same_place xs (take m (drop late ys))) (min (length xs) (length (take m (drop late ys)))) ≡ n - 204 * l
-returned xs ys l n late m D ex el hm = ap (counted (same_place xs part)) both ∙ counted_all (same_place xs part) (n - 204 * l) (λ k lt. equal _ _ (same k lt))
+    → agreeing_places nat_eq xs (take m (drop late ys)) ≡ n - 204 * l
+returned xs ys l n late m D ex el hm = agreeing_all xs part (λ k lt. same k (omega (arith, both))) ∙ both
   where
     part : List ℕ
     part = take m (drop late ys)

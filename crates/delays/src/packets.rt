@@ -1,105 +1,75 @@
 // The interleaver compared with recorded frames: coded words, and the line bytes that another coder made of them.
-ghost use Rattle.std.specs.Prelude.{◌≡◌, ◌+◌, ◌*◌, ◌≤◌, length};
-ghost use Rattle.delays.specs.Marks.{counted, same_frame};
+ghost use Rattle.std.specs.Prelude.{◌≡◌};
+ghost use Rattle.delays.specs.Marks.{agreeing_places};
 
 use crate::tally::agreeing;
 use delay_line::{Interleaving, send};
 use std::fs;
 use tester::decode;
+use thiserror::Error;
 
 const FRAMES: usize = 24;
 
-const FRAME_BYTES: usize = 4896;
+type Frame = [u8; 204];
 
 // What is wrong with a file of frames, with the number of the line from 1.
-#[derive(Clone, Copy)]
+#[derive(Clone, Copy, Debug, PartialEq, Eq, Error)]
 enum Flaw {
-    Unreadable,
-    NotAFrame(usize),
-    MoreLines(usize),
+    #[error("{file}: cannot be read")]
+    Unreadable { file: &'static str },
+    #[error("{file} line {line}: not a frame of 408 hex digits")]
+    NotAFrame { file: &'static str, line: usize },
+    #[error("{file} line {line}: more than 24 frames")]
+    MoreLines { file: &'static str, line: usize },
 }
 
-// Where the line that begins at `start` ends.
-fn line_end(text: &[u8], start: usize) -> usize
-    requires { start ≤ length text.now }
-    ensures { (start ≤ result) × (result ≤ length text.now) }
+// The frames of a text, each from a line.
+fn frames_of(file: &'static str, text: &[u8]) -> Result<[Frame; FRAMES], Flaw> {
+    let mut frames = [[0u8; 204]; FRAMES];
+    let mut lines = text
+        .strip_suffix(b"\n")
+        .unwrap_or(text)
+        .split(|byte| *byte == b'\n');
+    for (n, frame) in frames.iter_mut().enumerate() {
+        *frame = lines
+            .next()
+            .and_then(|line| decode(line))
+            .ok_or(Flaw::NotAFrame { file, line: n + 1 })?;
+    }
+    if lines.next().is_some() {
+        return Err(Flaw::MoreLines {
+            file,
+            line: FRAMES + 1,
+        });
+    }
+    Ok(frames)
+}
+
+// The frames of a file.
+fn read_frames(rt: &HostRuntime, file: &'static str) -> Result<[Frame; FRAMES], Flaw> {
+    let text = fs::read(rt, file).map_err(|_| Flaw::Unreadable { file })?;
+    frames_of(file, &text)
+}
+
+// How many frames are the same in both.
+fn same_frames(a: &[Frame], b: &[Frame]) -> usize
+    ensures { result ≡ agreeing_places ⟦<Frame as PartialEq>⟧.eq a.now b.now }
 {
-    for k in start..text.len() {
-        if text[k] == b'\n' {
-            return k;
-        }
-    }
-    text.len()
+    agreeing(a, b)
 }
 
-// Fills the frames, each from a line of 408 hex digits.
-fn read_frames(text: &[u8], frames: &mut [u8]) -> Result<(), Flaw> {
-    let count = frames.len() / 204;
-    let mut start = 0;
-    for n in 0..count {
-        let end = line_end(text, start);
-        if !decode(&text[start..end], &mut frames[204 * n..204 * n + 204]) {
-            return Err(Flaw::NotAFrame(n + 1));
-        }
-        start = (end + 1).min(text.len());
-    }
-    if start < text.len() {
-        return Err(Flaw::MoreLines(count + 1));
-    }
-    Ok(())
+// Sends the recorded words, and answers how many frames agree with the recorded line.
+fn recorded_agreeing(rt: &HostRuntime) -> Result<usize, Flaw> {
+    let mut sent = read_frames(rt, "words.hex")?;
+    let line = read_frames(rt, "line.hex")?;
+    send(&Interleaving, sent.as_flattened_mut());
+    Ok(same_frames(&sent, &line))
 }
 
-// Whether frame n is the same in both.
-fn same_frame(a: &[u8], b: &[u8], n: usize) -> bool
-    requires { (204 * n + 204 ≤ length a.now) × (204 * n + 204 ≤ length b.now) }
-    ensures { result ≡ same_frame a.now b.now n }
-{
-    let start = 204 * n;
-    agreeing(&a[start..start + 204], &b[start..start + 204]) == 204
-}
-
-// How many of the first frames are the same in both.
-fn same_frames(a: &[u8], b: &[u8], frames: usize) -> usize
-    requires { (204 * frames ≤ length a.now) × (204 * frames ≤ length b.now) }
-    ensures { result ≡ counted (same_frame a.now b.now) frames }
-{
-    let mut count = 0;
-    for n in 0..frames {
-        if same_frame(a, b, n) {
-            count += 1;
-        }
-    }
-    count
-}
-
-fn print_flaw(rt: &impl Print, file: &str, flaw: Flaw) -> anyhow::Result<()> {
-    match flaw {
-        Flaw::Unreadable => println!(rt; "{file}: cannot be read")?,
-        Flaw::NotAFrame(line) => println!(rt; "{file} line {line}: not a frame of 408 hex digits")?,
-        Flaw::MoreLines(line) => println!(rt; "{file} line {line}: more than 24 frames")?,
-    }
-    Ok(())
-}
-
-fn read_file(rt: &HostRuntime, file: &str, frames: &mut [u8]) -> Result<(), Flaw> {
-    let Ok(text) = fs::read(rt, file) else {
-        return Err(Flaw::Unreadable);
-    };
-    read_frames(&text, frames)
-}
-
-// Sends the recorded words, and counts the frames that agree with the recorded line.
 pub fn print_recorded(rt: &HostRuntime) -> anyhow::Result<()> {
-    let mut sent = [0u8; FRAME_BYTES];
-    let mut line = [0u8; FRAME_BYTES];
-    if let Err(flaw) = read_file(rt, "words.hex", &mut sent) {
-        return print_flaw(rt, "words.hex", flaw);
+    match recorded_agreeing(rt) {
+        Ok(same) => println!(rt; "interleaved frames {FRAMES} agreeing {same}")?,
+        Err(flaw) => println!(rt; "{flaw}")?,
     }
-    if let Err(flaw) = read_file(rt, "line.hex", &mut line) {
-        return print_flaw(rt, "line.hex", flaw);
-    }
-    send(&Interleaving, &mut sent);
-    let same = same_frames(&sent, &line, FRAMES);
-    println!(rt; "interleaved frames {FRAMES} agreeing {same}")?;
     Ok(())
 }

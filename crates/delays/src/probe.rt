@@ -8,8 +8,9 @@ use delay_line::{Scheme, send};
 fn mark(room: &mut [u8], place: usize)
     ensures { (k : ℕ) → k < length room.old → slice_index room.new k ≡ marked_at place k }
 {
-    for k in 0..room.len() {
-        room[k] = if k == place { 1 } else { 0 };
+    room.fill(0);
+    if place < room.len() {
+        room[place] = 1;
     }
 }
 
@@ -17,12 +18,7 @@ fn mark(room: &mut [u8], place: usize)
 fn first_one(room: &[u8]) -> Option<usize>
     ensures { MatchOption result ((k : ℕ) → k < length room.now → slice_index room.now k ≢ 1) (λ k. (k < length room.now) × (slice_index room.now k ≡ 1)) }
 {
-    for (k, x) in room.iter().enumerate() {
-        if *x == 1 {
-            return Some(k);
-        }
-    }
-    None
+    room.iter().position(|x| *x == 1)
 }
 
 // Where the byte sent at `place` leaves, if that is within the room.

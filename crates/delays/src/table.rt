@@ -1,7 +1,6 @@
 // The table of delay schemes.
 use crate::probe::leaves_at;
-use crate::tally::{PLACES, lag_of, there_and_back};
-use anyhow::anyhow;
+use crate::tally::{PLACES, Tally, lag_of, there_and_back};
 use delay_line::{BoardDelay, Interleaving, Scheme, Stack};
 
 pub fn print_heading(rt: &impl Print) -> anyhow::Result<()> {
@@ -27,33 +26,23 @@ fn print_place<S: Scheme>(rt: &impl Print, scheme: &S, slot: usize) -> anyhow::R
 pub fn print_row<S: Scheme>(rt: &impl Print, name: &str, scheme: &S) -> anyhow::Result<()> {
     let lag = lag_of(scheme);
     print!(rt; "{name:<40} {lag:>4}")?;
-    print_place(rt, scheme, 0)?;
-    print_place(rt, scheme, 1)?;
-    print_place(rt, scheme, 11)?;
-    print_place(rt, scheme, 12)?;
-    let tally = there_and_back(scheme);
-    let back = tally.back;
-    let wrong = tally.wrong;
+    for slot in [0, 1, 11, 12] {
+        print_place(rt, scheme, slot)?;
+    }
+    let Tally { back, wrong } = there_and_back(scheme);
     println!(rt; " {back:>7} {wrong:>7}")?;
     Ok(())
 }
 
-fn board(places: u32) -> anyhow::Result<BoardDelay> {
-    match BoardDelay::new(places) {
-        Ok(board) => Ok(board),
-        Err(_) => Err(anyhow!("a board delay is above 203")),
-    }
-}
-
 pub fn print_boards(rt: &impl Print) -> anyhow::Result<()> {
-    print_row(rt, "board 0", &board(0)?)?;
-    print_row(rt, "board 1", &board(1)?)?;
-    print_row(rt, "board 203", &board(203)?)
+    print_row(rt, "board 0", &BoardDelay::try_from(0)?)?;
+    print_row(rt, "board 1", &BoardDelay::try_from(1)?)?;
+    print_row(rt, "board 203", &BoardDelay::try_from(203)?)
 }
 
 pub fn print_stacks(rt: &impl Print) -> anyhow::Result<()> {
-    let one = board(1)?;
-    let most = board(203)?;
+    let one = BoardDelay::try_from(1)?;
+    let most = BoardDelay::try_from(203)?;
     print_row(
         rt,
         "board 1 over interleaver",
@@ -73,7 +62,7 @@ pub fn print_stacks(rt: &impl Print) -> anyhow::Result<()> {
 }
 
 pub fn print_refusal(rt: &impl Print, places: u32) -> anyhow::Result<()> {
-    match BoardDelay::new(places) {
+    match BoardDelay::try_from(places) {
         Ok(_) => println!(rt; "board {places} accepted")?,
         Err(refusal) => {
             let number = refusal.number();

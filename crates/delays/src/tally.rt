@@ -1,37 +1,29 @@
 // Numbered bytes there and back.
 ghost use Rattle.std.specs.Prelude.{◌≡◌, ℕ, ◌+◌, ◌-◌, ◌*◌, ◌%◌, ◌<◌, ◌≤◌, min, length, slice_index};
-ghost use Rattle.delays.specs.Marks.{counted, same_place};
+ghost use Rattle.delays.specs.Marks.{agreeing_places};
 
 use delay_line::{Half, Scheme, round_trip};
+use std::array;
 
 pub const PLACES: usize = 8160;
 
 // Byte i is i mod 251 + 1, so that none is 0.
-fn number(bytes: &mut [u8])
-    ensures { (k : ℕ) → k < length bytes.old → slice_index bytes.new k ≡ k % 251 + 1 }
+fn numbered() -> [u8; PLACES]
+    ensures { (k : ℕ) → k < PLACES → slice_index result k ≡ k % 251 + 1 }
 {
-    for k in 0..bytes.len() {
-        bytes[k] = (k % 251) as u8 + 1;
-    }
+    array::from_fn(|k| (k % 251) as u8 + 1)
 }
 
 // In how many places the two agree, as far as both go.
-pub fn agreeing(a: &[u8], b: &[u8]) -> usize
-    ensures count { result ≡ counted (same_place a.now b.now) (min (length a.now) (length b.now)) }
+pub fn agreeing<T: PartialEq>(a: &[T], b: &[T]) -> usize
+    ensures count { result ≡ agreeing_places T.eq a.now b.now }
     ensures bound { result ≤ length b.now }
 {
-    let both = a.len().min(b.len());
-    let mut count = 0;
-    for k in 0..both {
-        if a[k] == b[k] {
-            count += 1;
-        }
-    }
-    count
+    a.iter().zip(b).filter(|(x, y)| x == y).count()
 }
 
 // The bytes that came back a lag later as they were sent, and those that did not.
-#[derive(Clone, Copy)]
+#[derive(Clone, Copy, Debug, PartialEq, Eq)]
 pub struct Tally {
     pub back: usize,
     pub wrong: usize,
@@ -50,8 +42,7 @@ pub fn there_and_back<S: Scheme>(scheme: &S) -> Tally
     ensures back { result.back ≡ 8160 - 204 * S.Scheme.spans scheme.now }
     ensures wrong { result.wrong ≡ 0 }
 {
-    let mut sent = [0u8; PLACES];
-    number(&mut sent);
+    let sent = numbered();
     let mut taken = sent;
     round_trip(scheme, &mut taken);
     let late = (204 * lag_of(scheme) as usize).min(PLACES);

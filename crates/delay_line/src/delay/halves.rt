@@ -1,33 +1,30 @@
 // The two halves of a board delay.
-ghost use Rattle.std.specs.Prelude.{◌≡◌, ◌-◌};
-ghost use Rattle.delay_line.specs.Cells.{always};
-ghost use Rattle.delay_line.specs.Line.{silent};
+ghost use Rattle.std.specs.Prelude.{◌≡◌, ◌≤◌};
+ghost use Rattle.delay_line.specs.Cells.{always, places_of};
+ghost use Rattle.delay_line.specs.Fresh.{IsFresh};
 ghost use Rattle.delay_line.specs.contracts.delay.DelayDelayLine.TheImpl.{ghosts};
 
 use crate::board::BoardDelay;
 use crate::delay::Delay;
+use crate::direction::Direction;
+
+// The byte places of one half: sending, the board's, and receiving, what is left of one frame.
+fn places_of(board: BoardDelay, direction: Direction) -> u8
+    ensures { (result ≡ places_of direction board.places) × (result ≤ 204) }
+{
+    match direction {
+        Direction::Sending => board.places(),
+        Direction::Receiving => 204 - board.places(),
+    }
+}
 
 impl Delay {
-    // The sending half.
-    pub fn sending(board: BoardDelay) -> Delay
-        ensures delays { ghosts.delay result ≡ always board.places }
-        ensures span { ghosts.frames result ≡ 1 }
-        ensures empty { ghosts.pending result 0 ≡ silent }
+    // The half of this board.
+    pub fn new(board: BoardDelay, direction: Direction) -> Delay
+        ensures { IsFresh ghosts result (always (places_of direction board.places)) 1 }
     {
         Delay {
-            places: board.places(),
-            cells: [0; 204],
-        }
-    }
-
-    // The receiving half: what is left of one frame.
-    pub fn receiving(board: BoardDelay) -> Delay
-        ensures delays { ghosts.delay result ≡ always (204 - board.places) }
-        ensures span { ghosts.frames result ≡ 1 }
-        ensures empty { ghosts.pending result 0 ≡ silent }
-    {
-        Delay {
-            places: 204 - board.places(),
+            places: places_of(board, direction),
             cells: [0; 204],
         }
     }

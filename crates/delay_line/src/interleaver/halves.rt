@@ -1,32 +1,18 @@
 // The two halves of the interleaver.
-ghost use Rattle.std.specs.Prelude.{◌≡◌, ℕ, ◌-◌, ◌*◌, ◌%◌};
-ghost use Rattle.delay_line.specs.Line.{silent};
+ghost use Rattle.delay_line.specs.Cells.{twelfths};
+ghost use Rattle.delay_line.specs.Fresh.{IsFresh};
 ghost use Rattle.delay_line.specs.contracts.interleaver.InterleaverDelayLine.TheImpl.{ghosts};
 
-use crate::interleaver::{Direction, Interleaver};
+use crate::direction::Direction;
+use crate::interleaver::Interleaver;
 
 impl Interleaver {
-    // The sending half: the byte of slot k is delayed by k mod 12 frames.
-    pub fn sending() -> Interleaver
-        ensures delays { ghosts.delay result ≡ (λ (k : ℕ). 204 * (k % 12)) }
-        ensures span { ghosts.frames result ≡ 11 }
-        ensures empty { ghosts.pending result 0 ≡ silent }
+    // The half that delays the byte of slot k by k mod 12 frames, sending, and by what is left of eleven, receiving.
+    pub fn new(direction: Direction) -> Interleaver
+        ensures { IsFresh ghosts result (twelfths direction) 11 }
     {
         Interleaver {
-            direction: Direction::Sending,
-            oldest: [0; 12],
-            cells: [0; 1122],
-        }
-    }
-
-    // The receiving half: what is left of eleven frames.
-    pub fn receiving() -> Interleaver
-        ensures delays { ghosts.delay result ≡ (λ (k : ℕ). 204 * (11 - k % 12)) }
-        ensures span { ghosts.frames result ≡ 11 }
-        ensures empty { ghosts.pending result 0 ≡ silent }
-    {
-        Interleaver {
-            direction: Direction::Receiving,
+            direction,
             oldest: [0; 12],
             cells: [0; 1122],
         }

@@ -1,6 +1,5 @@
-use Rattle.std.proofs.Common.{refl}
 use Rattle.delay_line.proofs.Ringed.{ringed_zeros}
 use Rattle.delay_line.proofs.delay.DelayDelayLine.clear.Goals as goal
 
-pub returns : goal.returns
-returns c = record { empty = ringed_zeros c.args.self.now.places 0; same = refl; span = refl }
+pub returns-clause-empty : goal.returns-clause-empty
+returns-clause-empty c = ringed_zeros c.args.self.now.places 0

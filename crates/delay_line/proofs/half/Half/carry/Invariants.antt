@@ -1,19 +1,20 @@
 use Rattle.std.proofs.Common.{◌≡◌, ◌≤◌, ◌++◌, length, take, drop}
-use Rattle.delay_line.specs.Line.{line_at, carried, after_all}
+use Rattle.delay_line.specs.Line.{carried, after_all}
+use Rattle.delay_line.specs.Halves.{line_of, timing_of}
 use Rattle.delay_line.proofs.half.Half.carry.Given as goal
 
 abbrev pub invariant-loop-x : goal.invariant-loop-x
 invariant-loop-x g l =
-    let D = g.D.DelayLine in
-    let w = D.delay l.initial.self.line in
-    let h = line_at (D.pending l.self.line) l.self.slot.number in
-    let start = line_at (D.pending l.initial.self.line) l.initial.self.slot.number in
+    let w = (timing_of l.initial.self).delay in
+    let h = line_of l.self in
+    let start = line_of l.initial.self in
     let i = l.x-index in
     let left = drop i l.initial.bytes in
-    (D.delay l.self.line ≡ w)
-    × (D.frames l.self.line ≡ D.frames l.initial.self.line)
-    × (take i l.bytes ++ carried w h left ≡ carried w start l.initial.bytes)
-    × (after_all w h left ≡ after_all w start l.initial.bytes)
-    × (drop i l.bytes ≡ left)
-    × (length l.bytes ≡ length l.initial.bytes)
-    × (i ≤ length l.initial.bytes)
+    record {
+      timing : timing_of l.self ≡ timing_of l.initial.self;
+      answers : take i l.bytes ++ carried w h left ≡ carried w start l.initial.bytes;
+      goes : after_all w h left ≡ after_all w start l.initial.bytes;
+      rest : drop i l.bytes ≡ left;
+      as_long : length l.bytes ≡ length l.initial.bytes;
+      within : i ≤ length l.initial.bytes;
+    }

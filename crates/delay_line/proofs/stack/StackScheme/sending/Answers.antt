@@ -1,14 +1,8 @@
-use Rattle.std.proofs.Common.{◌∙◌, arith}
-use Rattle.delay_line.specs.InSeries.{both_silent, series_same}
+use Rattle.delay_line.proofs.FreshSeries.{fresh_as, series_delays_fresh, series_empty_fresh, series_span_fresh}
 use Rattle.delay_line.proofs.stack.StackScheme.sending.Goals as goal
 
 pub returns : goal.returns
 returns g c =
-    let a = c.sending.ensures in
-    let b = c.sending-2.ensures in
-    let r = c.new.ensures in
-    record {
-      delays = series_same (r.delays.0 ∙ a.delays) (r.delays.1 ∙ b.delays);
-      span = omega (arith, r.span.0, a.span, r.span.1, b.span);
-      empty = both_silent (g.B.Sending.DelayLine.delay c.new.result.second) 0 r.empty.0 r.empty.1;
-    }
+    let a = fresh_as c.new.ensures.first c.sending.ensures.delays c.sending.ensures.span in
+    let b = fresh_as c.new.ensures.second c.sending-2.ensures.delays c.sending-2.ensures.span in
+    record { delays = series_delays_fresh a b; span = series_span_fresh a b; empty = series_empty_fresh a b }

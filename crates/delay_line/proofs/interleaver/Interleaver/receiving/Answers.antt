@@ -1,8 +1,0 @@
-use Rattle.std.proofs.Common.{replicate, refl}
-use Rattle.delay_line.specs.Cells.{branch_of}
-use Rattle.delay_line.specs.declared.interleaver.Direction.TheVariants.{Receiving}
-use Rattle.delay_line.proofs.Branches.{branched_zeros}
-use Rattle.delay_line.proofs.interleaver.Interleaver.receiving.Goals as goal
-
-pub returns : goal.returns
-returns c = record { delays = refl; span = refl; empty = branched_zeros (branch_of Receiving) (replicate 12 0) 0 }
