@@ -1,6 +1,6 @@
 -- What the word reader answers, by the corrector's answer; and that it does not read words that are out of step.
 use Rattle.std.proofs.Common.{◌≡◌, ℕ, suc, ◌+◌, ◌-◌, ◌*◌, ◌≤◌, true, false, eqb, List, length, get_or, Some, None, Ok, Err, Option, Result, sym, refl, ap, ◌∙◌, subst, inl, inr, arith}
-use Rattle.std.proofs.lemmas.Bool.{eq-eqb, ne_eqb, cond-true, cond-false}
+use Rattle.std.proofs.lemmas.Bool.{eq-eqb, cond-true, cond-false}
 use Rattle.std.proofs.lemmas.List.{length-take-le, length-drop}
 use Rattle.coding_theory.specs.Galois.{bytes}
 use Rattle.coding_theory.specs.Misaligned.{laid}
@@ -15,12 +15,9 @@ use Rattle.framing.specs.Nearest.{nearest}
 use Rattle.framing.specs.Refusals.{lifted}
 use Rattle.framing.specs.Words.{sent_words}
 use Rattle.framing.specs.declared.refusal.WordFault.TheVariants.{Code, Sync}
-use Rattle.framing.specs.declared.refusal.WordRefusal.TheVariants.{Length, Fault}
+use Rattle.framing.specs.declared.refusal.WordRefusal.TheVariants.{Fault}
 use Rattle.framing.proofs.Nearest.{nearest_is_near}
 use Rattle.framing.proofs.Sent.{all_begun}
-
-pub mended_short : (w : List ℕ) → (length w ≡ 204 → ⊥) → mended w ≡ record { answer = Err Length; buffer = w }
-mended_short w n = cond-false (eqb (length w) 204) _ _ (ne_eqb (length w) 204 n)
 
 mended_word : (w : List ℕ) → length w ≡ 204 → mended w ≡ tried w (nearest w)
 mended_word w e = cond-true (eqb (length w) 204) _ _ (eq-eqb (length w) 204 e)

@@ -1,26 +1,29 @@
 // The position of a word in its group of eight.
-ghost use Rattle.std.specs.Prelude.{◌≡◌, ◌<◌, IfSome};
-ghost use Rattle.framing.specs.Group.{expected_after, following, known, position_of};
+ghost use Rattle.std.specs.Prelude.{◌≡◌, ℕ, ◌<◌, IfSome, None, Option};
+ghost use Rattle.framing.specs.Group.{expected_after, following, position_of};
 
-// The position that the next word should have.
-#[derive(Clone, Copy)]
-pub enum Expected {
-    Unknown,
-    Position(u8),
-}
+use std::marker::Model;
 
 // What was met: a word that begins with B8h, one that begins with 47h, or a word that could not be read.
-#[derive(Clone, Copy)]
+#[derive(Clone, Copy, Debug, PartialEq, Eq)]
 pub enum Event {
     GroupStart,
     Plain,
     Lost,
 }
 
+// A clause sees a group as the position that its next word should have, where one is known.
 #[derive(Drop)]
 pub struct Group {
-    expected: Expected,
-    ghost ok: { known expected < 8 },
+    expected: Option<u8>,
+}
+
+impl Model for Group {
+    ghost Value = { Option ℕ };
+
+    ghost view = { λ g. g.expected };
+
+    ghost invariant = { λ g. IfSome g.expected (λ position. position < 8) };
 }
 
 // The position after `position`.
@@ -33,35 +36,32 @@ pub fn next_position(position: u8) -> u8
 impl Group {
     // No position is known.
     pub fn new() -> Group
-        ensures { result.expected ≡ Expected.Unknown }
+        ensures { result ≡ None }
     {
-        Group {
-            expected: Expected::Unknown,
-        }
+        Group { expected: None }
     }
 
     // The position of the word that was met, if it has one.
     pub fn meet(&mut self, event: Event) -> Option<u8>
-        ensures position { result ≡ position_of self.old.expected event }
-        ensures next { self.new.expected ≡ expected_after self.old.expected event }
+        ensures position { result ≡ position_of self.old event }
+        ensures next { self.new ≡ expected_after self.old event }
         ensures within { IfSome result (λ g. g < 8) }
     {
         match (self.expected, event) {
             (_, Event::GroupStart) => {
-                self.expected = Expected::Position(1);
+                self.expected = Some(1);
                 Some(0)
             }
-            (Expected::Unknown, Event::Plain) | (Expected::Position(0), Event::Plain) => {
-                self.expected = Expected::Unknown;
+            (None | Some(0), Event::Plain) => {
+                self.expected = None;
                 None
             }
-            (Expected::Position(g), Event::Plain) => {
-                self.expected = Expected::Position(next_position(g));
+            (Some(g), Event::Plain) => {
+                self.expected = Some(next_position(g));
                 Some(g)
             }
-            (Expected::Unknown, Event::Lost) => None,
-            (Expected::Position(missed), Event::Lost) => {
-                self.expected = Expected::Position(next_position(missed));
+            (expected, Event::Lost) => {
+                self.expected = expected.map(next_position);
                 None
             }
         }

@@ -8,7 +8,7 @@ mod randomizer;
 mod refusal;
 mod word;
 
-pub use group::{Event, Expected, Group, next_position};
+pub use group::{Event, Group, next_position};
 pub use laws::{mask_follows_its_rule, nearest_is_near, packets_come_back};
 pub use randomizer::{derandomize, randomize};
 pub use refusal::{WordFault, WordRefusal};

@@ -18,6 +18,7 @@ fn combine(packet: &mut [u8], position: u8)
 {
     let start = 188 * position as usize;
     let end = packet.len().min(188);
+    // tried: packet.iter_mut().skip(1).zip(..); the proof didn't close at the packet's bytes after the loop, of which nothing is known then
     for b in 1..end {
         packet[b] ^= mask_byte(start + b - 1);
     }
@@ -26,8 +27,8 @@ fn combine(packet: &mut [u8], position: u8)
 fn put_first(packet: &mut [u8], x: u8)
     ensures { packet.new ≡ slice_set packet.old 0 x }
 {
-    if packet.len() > 0 {
-        packet[0] = x;
+    if let Some(first) = packet.first_mut() {
+        *first = x;
     }
 }
 

@@ -4,23 +4,28 @@ ghost use Rattle.framing.specs.declared.refusal.WordFault.TheVariants.{Code};
 ghost use Rattle.std.specs.Prelude.{◌≡◌};
 
 use reed_solomon::{CodeFault, CodeRefusal};
+use thiserror::Error;
 
 // What is wrong with a word of 204 bytes.
-#[derive(Clone, Copy)]
+#[derive(Clone, Copy, Debug, PartialEq, Eq, Error)]
 pub enum WordFault {
     // the corrector's fault
+    #[error("no code word is within eight bytes")]
     Code(CodeFault),
-    // the corrected word begins with neither 47h nor B8h
+    // of the corrected word
+    #[error("the word begins with neither 47h nor B8h")]
     Sync,
 }
 
-#[derive(Clone, Copy)]
+#[derive(Clone, Copy, Debug, PartialEq, Eq, Error)]
 pub enum WordRefusal {
-    // the buffer is not 204 bytes
+    #[error("the buffer is not 204 bytes")]
     Length,
+    #[error(transparent)]
     Fault(WordFault),
 }
 
+// By hand, as the next: the From that a derive writes has no contract, and mend's clause names the refusal that its ? makes.
 impl From<CodeFault> for WordFault {
     ghost from_gives = { λ x y. y ≡ Code x };
 
@@ -40,6 +45,7 @@ impl From<CodeRefusal> for WordRefusal {
     }
 }
 
+// By case and not by discriminants: the corrector's fault brings numbers of its own.
 impl WordFault {
     pub fn number(&self) -> u32
         ensures { result ≡ fault_number self.now }

@@ -21,7 +21,7 @@ pub fn sent_word(packet: &[u8; 188], position: u8) -> [u8; 204]
 fn is_sync(first: u8) -> bool
     ensures { result ≡ is_sync first }
 {
-    first == 0x47 || first == 0xB8
+    matches!(first, 0x47 | 0xB8)
 }
 
 // Corrects a word of 204 bytes that begins with a sync byte, and answers how many bytes were wrong. After a refusal the buffer holds
@@ -31,11 +31,9 @@ pub fn mend(word: &mut [u8]) -> Result<u8, WordRefusal>
     ensures buffer { word.new ≡ (mended word.old).buffer }
     ensures misaligned { MisalignedUnread word.old }
 {
-    if word.len() != 204 {
+    let Ok(mut copy) = <[u8; 204]>::try_from(&*word) else {
         return Err(WordRefusal::Length);
-    }
-    let mut copy = [0u8; 204];
-    copy.copy_from_slice(word);
+    };
     let count = correct_bytes(&mut copy)?;
     if !is_sync(copy[0]) {
         return Err(WordRefusal::Fault(WordFault::Sync));

@@ -5,31 +5,23 @@
 mod tests {
     use framing::{Event, Group, derandomize, mend, randomize, sent_word};
 
-    // The refusal's number, or 0.
-    fn refusal(word: &mut [u8]) -> u32 {
-        match mend(word) {
-            Ok(_) => 0,
-            Err(refusal) => refusal.number(),
-        }
+    // The refusal's number, where there is one.
+    fn refusal(word: &mut [u8]) -> Option<u32> {
+        mend(word).err().map(|refusal| refusal.number())
     }
 
     // Two words end to end.
     fn joined(first: &[u8; 204], second: &[u8; 204]) -> [u8; 408] {
         let mut line = [0u8; 408];
-        for k in 0..204usize {
-            line[k] = first[k];
-            line[k + 204] = second[k];
-        }
+        line[..204].copy_from_slice(first);
+        line[204..].copy_from_slice(second);
         line
     }
 
-    // The number of the refusal of the word that begins at a place of the line, or 0.
-    fn refusal_at(line: &[u8], place: usize) -> u32 {
-        let mut word = [0u8; 204];
-        match line.get(place..place.saturating_add(204)) {
-            Some(part) if part.len() == 204 => word.copy_from_slice(part),
-            _ => return 0,
-        }
+    // The number of the refusal of the word that begins at a place of the line, where there is one.
+    fn refusal_at(line: &[u8], place: usize) -> Option<u32> {
+        let part = line.get(place..place.saturating_add(204))?;
+        let mut word = <[u8; 204]>::try_from(part).ok()?;
         refusal(&mut word)
     }
 
@@ -63,14 +55,14 @@ mod tests {
     fn eight_wrong_bytes_and_no_sync(rt: HostRuntime) {
         let mut word = [0u8; 204];
         word[0..8].copy_from_slice(&[1u8; 8]);
-        assert_eq!(rt; refusal(&mut word), 12);
+        assert_eq!(rt; refusal(&mut word), Some(12));
         assert_eq!(rt; word[0], 1);
         assert_eq!(rt; word[7], 1);
         word[203] = 1;
-        assert_eq!(rt; refusal(&mut word), 11);
+        assert_eq!(rt; refusal(&mut word), Some(11));
         assert_eq!(rt; word[203], 1);
         let mut short = [0u8; 203];
-        assert_eq!(rt; refusal(&mut short), 14);
+        assert_eq!(rt; refusal(&mut short), Some(14));
     }
 
     #[test]
@@ -78,11 +70,11 @@ mod tests {
         let mut packet = [0x55u8; 188];
         packet[0] = 0x47;
         let line = joined(&sent_word(&packet, 0), &sent_word(&packet, 1));
-        assert_eq!(rt; refusal_at(&line, 0), 0);
-        assert_eq!(rt; refusal_at(&line, 204), 0);
+        assert_eq!(rt; refusal_at(&line, 0), None);
+        assert_eq!(rt; refusal_at(&line, 204), None);
         for s in 1..5usize {
-            assert!(rt; refusal_at(&line, s) >= 11);
-            assert!(rt; refusal_at(&line, 204 - s) >= 11);
+            assert!(rt; refusal_at(&line, s).is_some_and(|number| number >= 11));
+            assert!(rt; refusal_at(&line, 204 - s).is_some_and(|number| number >= 11));
         }
     }
 
@@ -93,7 +85,7 @@ mod tests {
         let mut word = sent_word(&packet, 1);
         let right = word[100];
         word[100] ^= 0xff;
-        assert_eq!(rt; mend(&mut word).ok(), Some(1));
+        assert_eq!(rt; mend(&mut word), Ok(1));
         assert_eq!(rt; word[100], right);
     }
 

@@ -1,14 +1,23 @@
--- What the symbol writer and the symbol reader hold, as bits.
-use Rattle.std.specs.Prelude.{drop}
+-- What the symbol writer and the symbol reader are to their callers.
+use Rattle.std.specs.Prelude.{ℕ, List, drop}
 use Rattle.symbols.specs.Bits.{bits, octets}
 use Rattle.symbols.specs.Stages.{Outgoing, Incoming}
-use Rattle.symbols.specs.declared.reader.SymbolReader.{SymbolReader}
-use Rattle.symbols.specs.declared.writer.SymbolWriter.{SymbolWriter}
+use Rattle.symbols.specs.declared.mapping.Mapping.{Mapping}
 
--- the bits of the writer's line from its next one on
-unfoldable pub outgoing_of : SymbolWriter → Outgoing
-outgoing_of w = record { undrawn = drop w.next (octets w.line); turn = w.turn }
+-- a writer: its mapping, and the bits that are still to be drawn with the turn of the last symbol
+pub record Writer : Type 0 where
+  pub mapping : Mapping
+  pub outgoing : Outgoing
 
--- the bits of the number that the reader holds
-unfoldable pub incoming_of : SymbolReader → Incoming
-incoming_of r = record { bits = bits r.count r.held; turn = r.turn }
+-- a reader: its mapping, and the bits that do not yet fill a byte with the turn of the last symbol
+pub record Reader : Type 0 where
+  pub mapping : Mapping
+  pub incoming : Incoming
+
+-- the bits of the line from bit `next` on
+unfoldable pub outgoing_of : (line : List ℕ) (next turn : ℕ) → Outgoing
+outgoing_of line next turn = record { undrawn = drop next (octets line); turn = turn }
+
+-- the bits of the number `held`
+unfoldable pub incoming_of : (count held turn : ℕ) → Incoming
+incoming_of count held turn = record { bits = bits count held; turn = turn }

@@ -1,7 +1,9 @@
 -- Where the line's bits become symbols, and where symbols become bytes again: what each call gives and leaves.
-use Rattle.std.specs.Prelude.{ℕ, ◌^◌, Bool, cond, ◌&&◌, List, [], ◌++◌, length, take, drop, Some, None, Option, ◌==◌, nat_le, nat_lt}
+use Rattle.std.specs.Prelude.{ℕ, ◌^◌, Bool, cond, if◌then◌else◌, ◌&&◌, List, [], ◌++◌, length, take, drop, Some, None, Ok, Err, Option, Result, ◌==◌, nat_le, nat_lt}
 use Rattle.symbols.specs.Bits.{number, octets}
 use Rattle.symbols.specs.Turns.{turn, encoded, turn_of, tuple_of}
+use Rattle.symbols.specs.declared.refusal.AppendRefusal.{AppendRefusal}
+use Rattle.symbols.specs.declared.refusal.AppendRefusal.TheVariants.{Length, Undrawn}
 
 -- the sender's bits that are still to be drawn, and the turn of its last symbol
 pub record Outgoing : Type 0 where
@@ -24,6 +26,10 @@ fresh_incoming = record { bits = []; turn = 0 }
 -- whether a frame is accepted: it has 204 bytes, and fewer than eight bits are undrawn
 abbrev pub accepts : List ℕ → Outgoing → Bool
 accepts frame o = length frame == 204 && nat_lt (length o.undrawn) 8
+
+-- the answer to a frame: one that is not accepted is refused for its length or, where that is right, for the bits that are undrawn
+abbrev pub append_answer : List ℕ → Outgoing → Result (Unit {0}) AppendRefusal
+append_answer frame o = if accepts frame o then Ok tt else if length frame == 204 then Err Undrawn else Err Length
 
 -- a frame that is accepted stands behind the undrawn bits
 abbrev pub after_append : List ℕ → Outgoing → Outgoing

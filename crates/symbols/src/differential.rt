@@ -1,9 +1,12 @@
 // Turns in the two highest bits.
-ghost use Rattle.std.specs.Prelude.{◌≡◌, ◌^◌, ◌<◌, ◌≤◌, ◌++◌, drop};
+ghost use Rattle.std.specs.Prelude.{◌≡◌, ◌^◌, ◌<◌, ◌++◌, drop};
 ghost use Rattle.symbols.specs.Bits.{bits, number};
 ghost use Rattle.symbols.specs.Turns.{lead, turn as turn_in, turn_of};
 
+use crate::mapping::Mapping;
+
 // The turn for which two bits stand.
+#[tactic(auto, unfolding(crate::specs::Bits::bits))]
 fn turn_of(top: u8) -> u8
     requires { top < 4 }
     ensures { result ≡ turn_in (bits 2 top) }
@@ -28,19 +31,20 @@ fn lead_of(turn: u8) -> u8
     }
 }
 
-// The turn of a tuple or symbol of `m` bits.
-pub(crate) fn turn_at(m: u32, x: u8) -> u8
-    requires { (2 ≤ m) × (m ≤ 8) × (x < 2 ^ m) }
-    ensures { result ≡ turn_of m x }
-{
-    turn_of(x >> (m - 2))
-}
+impl Mapping {
+    // The turn of a tuple or symbol.
+    pub(crate) fn turn_at(self, x: u8) -> u8
+        requires { x < 2 ^ self.bits }
+        ensures { result ≡ turn_of self.bits x }
+    {
+        turn_of(x >> (self.bits() - 2))
+    }
 
-// A tuple or symbol of `m` bits with another turn.
-pub(crate) fn with_turn(m: u32, turn: u8, x: u8) -> u8
-    requires { (2 ≤ m) × (m ≤ 8) }
-    ensures { result ≡ number (lead turn ++ drop 2 (bits m x)) }
-{
-    let low = m - 2;
-    (lead_of(turn) << low) + x % (1 << low)
+    // A tuple or symbol with another turn.
+    pub(crate) fn with_turn(self, turn: u8, x: u8) -> u8
+        ensures { result ≡ number (lead turn ++ drop 2 (bits self.bits x)) }
+    {
+        let low = self.bits() - 2;
+        (lead_of(turn) << low) + x % (1 << low)
+    }
 }

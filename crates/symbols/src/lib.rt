@@ -11,11 +11,11 @@ mod writer;
 
 pub use mapping::Mapping;
 pub use reader::SymbolReader;
-pub use refusal::MappingRefusal;
+pub use refusal::{AppendRefusal, MappingRefusal};
 pub use writer::SymbolWriter;
 
 // What symbols keep to, over every number of bits to a symbol.
-pub fn symbol_laws() -> u8
+pub fn symbol_laws()
     ensures expression { BooleanExpression }
     ensures closed { ClosedForm }
     ensures decoded { DecodedIsSent }
@@ -23,6 +23,4 @@ pub fn symbol_laws() -> u8
     ensures read { WrittenIsRead }
     ensures undamaged { UndamagedBytes }
     ensures worked { WorkedSymbols 6 }
-{
-    0
-}
+{}

@@ -1,11 +1,13 @@
-// Why there is no mapping.
-ghost use Rattle.symbols.specs.Refusals.{number_of};
+// Why there is no mapping, and why a frame is not appended.
 ghost use Rattle.std.specs.Prelude.{◌≡◌};
+ghost use Rattle.symbols.specs.Refusals.{number_of};
 
-#[derive(Clone, Copy)]
+use thiserror::Error;
+
+#[derive(Clone, Copy, Debug, PartialEq, Eq, Error)]
 pub enum MappingRefusal {
-    // a symbol has 4, 5 or 6 bits
-    BitsPerSymbol,
+    #[error("the number of bits to a symbol is 4, 5 or 6")]
+    BitsPerSymbol = 1,
 }
 
 impl MappingRefusal {
@@ -13,8 +15,14 @@ impl MappingRefusal {
     pub fn number(&self) -> u32
         ensures { result ≡ number_of self.now }
     {
-        match self {
-            MappingRefusal::BitsPerSymbol => 1,
-        }
+        *self as u32
     }
+}
+
+#[derive(Clone, Copy, Debug, PartialEq, Eq, Error)]
+pub enum AppendRefusal {
+    #[error("the frame is not 204 bytes")]
+    Length,
+    #[error("eight or more bits are undrawn")]
+    Undrawn,
 }

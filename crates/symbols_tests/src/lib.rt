@@ -4,41 +4,40 @@
 #[cfg(test)]
 mod tests {
     use std::test::Fail;
-    use symbols::{Mapping, SymbolReader, SymbolWriter};
+    use symbols::{AppendRefusal, Mapping, MappingRefusal, SymbolReader, SymbolWriter};
 
-    fn refusal(bits: u32) -> u32 {
-        match Mapping::new(bits) {
-            Ok(_) => 0,
-            Err(refusal) => refusal.number(),
-        }
-    }
-
-    fn mapping(bits: u32) -> Result<Mapping, Fail> {
-        match Mapping::new(bits) {
-            Ok(mapping) => Ok(mapping),
-            Err(_) => Err(Fail::new("no mapping")),
-        }
+    // The refusal's number, where there is one.
+    fn refusal(bits: u32) -> Option<u32> {
+        Mapping::try_from(bits)
+            .err()
+            .map(|refusal| refusal.number())
     }
 
     // How many of `most` draws give a symbol.
-    fn drawn(writer: &mut SymbolWriter, most: u32) -> u32 {
-        let mut symbols = 0u32;
-        for _i in 0..most {
-            match writer.draw() {
-                Some(_) => symbols = symbols.wrapping_add(1),
-                None => {}
-            }
-        }
-        symbols
+    fn drawn(writer: &mut SymbolWriter, most: u32) -> usize {
+        (0..most).filter_map(|_| writer.draw()).count()
     }
 
     #[test]
     fn three_and_seven_bits_are_refused(rt: HostRuntime) {
-        assert_eq!(rt; refusal(3), 1);
-        assert_eq!(rt; refusal(4), 0);
-        assert_eq!(rt; refusal(5), 0);
-        assert_eq!(rt; refusal(6), 0);
-        assert_eq!(rt; refusal(7), 1);
+        assert_eq!(rt; refusal(3), Some(1));
+        assert_eq!(rt; refusal(4), None);
+        assert_eq!(rt; refusal(5), None);
+        assert_eq!(rt; refusal(6), None);
+        assert_eq!(rt; refusal(7), Some(1));
+    }
+
+    #[test]
+    fn a_mapping_is_read_and_named(rt: HostRuntime) -> Result<(), Fail> {
+        let mapping: Mapping = "5".parse()?;
+        assert_eq!(rt; mapping.bits(), 5);
+        assert_eq!(rt; mapping.to_string(rt.alloc())?.as_str(), "32-QAM");
+        assert_eq!(rt; "7".parse::<Mapping>(), Err(MappingRefusal::BitsPerSymbol));
+        assert_eq!(rt;
+            "six".parse::<Mapping>(),
+            Err(MappingRefusal::BitsPerSymbol)
+        );
+        Ok(())
     }
 
     #[test]
@@ -47,9 +46,9 @@ mod tests {
         frame[0] = 0x47;
         frame[1] = 0xb8;
         frame[2] = 0x47;
-        let mut writer = SymbolWriter::new(mapping(6)?);
+        let mut writer = SymbolWriter::new(Mapping::try_from(6)?);
         assert_eq!(rt; writer.draw(), None);
-        assert!(rt; writer.append(&frame));
+        writer.append(&frame)?;
         assert_eq!(rt; writer.draw(), Some(17));
         assert_eq!(rt; writer.draw(), Some(43));
         assert_eq!(rt; writer.draw(), Some(49));
@@ -60,7 +59,7 @@ mod tests {
 
     #[test]
     fn bytes_of_symbols_a_quarter_turn_on(rt: HostRuntime) -> Result<(), Fail> {
-        let mut reader = SymbolReader::new(mapping(6)?);
+        let mut reader = SymbolReader::new(Mapping::try_from(6)?);
         assert_eq!(rt; reader.take(1), None);
         assert_eq!(rt; reader.take(64), None);
         assert_eq!(rt; reader.take(59), Some(0x07));
@@ -79,11 +78,11 @@ mod tests {
         first[203] = 0b10;
         let mut second = [0u8; 204];
         second[0] = 0b101_00000;
-        let mut writer = SymbolWriter::new(mapping(5)?);
-        assert!(rt; writer.append(&first));
+        let mut writer = SymbolWriter::new(Mapping::try_from(5)?);
+        writer.append(&first)?;
         assert_eq!(rt; drawn(&mut writer, 400), 326);
         assert_eq!(rt; writer.undrawn_bits(), 2);
-        assert!(rt; writer.append(&second));
+        writer.append(&second)?;
         assert_eq!(rt; writer.undrawn_bits(), 1634);
         assert_eq!(rt; writer.draw(), Some(0b10_101));
         assert_eq!(rt; writer.draw(), Some(0b10_000));
@@ -95,15 +94,15 @@ mod tests {
     #[test]
     fn frames_are_refused_behind_eight_bits(rt: HostRuntime) -> Result<(), Fail> {
         let frame = [0u8; 204];
-        let mut writer = SymbolWriter::new(mapping(4)?);
-        assert!(rt; !writer.append(&frame[0..203]));
-        assert!(rt; writer.append(&frame));
-        assert!(rt; !writer.append(&frame));
+        let mut writer = SymbolWriter::new(Mapping::try_from(4)?);
+        assert_eq!(rt; writer.append(&frame[0..203]), Err(AppendRefusal::Length));
+        writer.append(&frame)?;
+        assert_eq!(rt; writer.append(&frame), Err(AppendRefusal::Undrawn));
         assert_eq!(rt; drawn(&mut writer, 406), 406);
         assert_eq!(rt; writer.undrawn_bits(), 8);
-        assert!(rt; !writer.append(&frame));
+        assert_eq!(rt; writer.append(&frame), Err(AppendRefusal::Undrawn));
         assert_eq!(rt; drawn(&mut writer, 1), 1);
-        assert!(rt; writer.append(&frame));
+        writer.append(&frame)?;
         assert_eq!(rt; writer.undrawn_bits(), 1636);
         Ok(())
     }

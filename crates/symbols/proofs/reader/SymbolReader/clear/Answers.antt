@@ -5,4 +5,4 @@ use Rattle.symbols.proofs.reader.SymbolReader.clear.Goals as goal
 
 pub returns : goal.returns
 unfolding incoming_of bits
-returns c = record { model = refl; mapping = refl }
+returns c = rw (← c.self.view_is) refl

@@ -5,4 +5,4 @@ use Rattle.symbols.proofs.reader.SymbolReader.new.Goals as goal
 
 pub returns : goal.returns
 unfolding incoming_of bits
-returns c = record { model = refl; mapping = refl }
+returns c = refl

@@ -5,4 +5,4 @@ use Rattle.symbols.proofs.writer.SymbolWriter.new.Goals as goal
 
 pub returns : goal.returns
 unfolding outgoing_of
-returns c = record { model = ap (λ (l : List Bool). record { undrawn = l; turn = 0 }) (none_undrawn (replicate 205 0) refl); mapping = refl }
+returns c = ap (λ (l : List Bool). record { mapping = c.args.mapping; outgoing = record { undrawn = l; turn = 0 } }) (none_undrawn (replicate 205 0) refl)

@@ -1,7 +1,7 @@
 use Rattle.std.proofs.Common.{◌≡◌, ℕ, ◌≤◌, List, [], ◌∷◌, ◌++◌, length, get_or, set, ap, ◌∙◌, arith}
 use borrow.Rule.Slice.PartMut.{put_mid}
 use Rattle.std.proofs.lemmas.List.{drop_all, append-nil}
-use Rattle.symbols.proofs.writer.ops.lay.Goals as goal
+use Rattle.symbols.proofs.writer.lay.Goals as goal
 
 laid : (xs ys : List ℕ) (v : ℕ) → length xs ≡ 205 → put_mid 1 204 (set xs 0 v) ys ≡ v ∷ ys
 laid [] ys v e = absurd (let z : ⊥ = omega arith in z)
@@ -11,5 +11,5 @@ laid (x ∷ xs) ys v e =
 
 pub returns : goal.returns
 returns c =
-    laid c.args.line.now c.copy_from_slice.new.self (get_or c.args.line.now 204 0) c.requires.line_len
+    laid c.args.line.now c.copy_from_slice.new.self (get_or c.args.line.now 204 0) c.told-line
     ∙ ap (λ (r : List ℕ). get_or c.args.line.now 204 0 ∷ r) c.copy_from_slice.ensures.after
