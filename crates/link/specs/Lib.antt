@@ -1,3 +1,3 @@
-pub mod Receiver
+pub mod Placed
 pub mod Models
 pub mod Both

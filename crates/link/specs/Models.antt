@@ -1,9 +1,14 @@
--- What the parts of a sender, and of a receiver, mean together.
-use Rattle.std.specs.Prelude.{ℕ}
-use Rattle.delay_line.specs.Line.{line_at}
-use Rattle.link_theory.specs.Receiver.{joined}
-use Rattle.symbols.specs.Models.{incoming_of, outgoing_of}
-use Rattle.link.specs.Receiver.{cutter_of, reader_of, waiting_of}
+-- What a sender and a receiver are to their callers, and what their calls answer and leave.
+use Rattle.std.specs.Prelude.{ℕ, Bool, List, Result}
+use Rattle.delay_line.specs.Halves.{line_of, timing_of}
+use Rattle.delay_line.specs.declared.half.Half.{Half}
+use Rattle.delay_line.specs.declared.line.DelayLine.{Ghosts}
+use Rattle.link_theory.specs.Receiver.{joined, Took, took, Collected, collected}
+use Rattle.link_theory.specs.Sender.{Loaded, loaded, Drew, drew}
+use Rattle.link_theory.specs.declared.refusal.CollectRefusal.{CollectRefusal}
+use Rattle.link_theory.specs.declared.refusal.DrawRefusal.{DrawRefusal}
+use Rattle.link_theory.specs.declared.refusal.LoadRefusal.{LoadRefusal}
+use Rattle.link_theory.specs.declared.refusal.TakeRefusal.{TakeRefusal}
 use Rattle.link.specs.declared.receiver.Receiver.{Receiver}
 use Rattle.link.specs.declared.sender.Sender.{Sender}
 
@@ -13,19 +18,58 @@ pub record Settings : Type 0 where
   pub delays : ℕ → ℕ
   pub lag : ℕ
 
--- a sender's, over a delay line with these delays and this lag
-abbrev pub settings_of : {D : Type 0} → (D → ℕ → ℕ) → (D → ℕ) → Sender D → Settings
-settings_of delay frames s = record { bits = s.writer.mapping.bits; delays = delay s.half.line; lag = frames s.half.line }
+-- with so many bits to a symbol, over this half of a delay line
+abbrev pub settings_over : {D : Type 0} {d : Ghosts D} → ℕ → Half D d → Settings
+settings_over m h = record { bits = m; delays = (timing_of h).delay; lag = (timing_of h).frames }
 
--- the model of a sender, over a delay line in which this is pending
-abbrev pub sender_of : {D : Type 0} → (D → ℕ → ℕ → ℕ) → Sender D → Rattle.link_theory.specs.Sender.Sender
-sender_of pending s = record { line = line_at (pending s.half.line) s.half.slot.number; position = s.position; outgoing = outgoing_of s.writer }
+-- a sender's
+abbrev pub settings_of : {D : Type 0} {d : Ghosts D} → Sender D d → Settings
+settings_of s = settings_over s.writer.mapping.bits s.half
 
--- a receiver's settings
-abbrev pub receives_by : {D : Type 0} → (D → ℕ → ℕ) → (D → ℕ) → Receiver D → Settings
-receives_by delay frames r = record { bits = r.symbols.mapping.bits; delays = delay r.half.line; lag = frames r.half.line }
+-- a receiver's
+abbrev pub receives_by : {D : Type 0} {d : Ghosts D} → Receiver D d → Settings
+receives_by r = settings_over r.symbols.mapping.bits r.half
+
+-- the model of a sender
+abbrev pub sender_of : {D : Type 0} {d : Ghosts D} → Sender D d → Rattle.link_theory.specs.Sender.Sender
+sender_of s = record { line = line_of s.half; position = s.position; outgoing = s.writer.outgoing }
 
 -- the model of a receiver
-abbrev pub receiver_of : {D : Type 0} → (D → ℕ → ℕ → ℕ) → Receiver D → Rattle.link_theory.specs.Receiver.Receiver
-receiver_of pending r =
-    joined (incoming_of r.symbols) (line_at (pending r.half.line) r.half.slot.number) (cutter_of r.cutter) (reader_of r.packets) (waiting_of r.waiting)
+abbrev pub receiver_of : {D : Type 0} {d : Ghosts D} → Receiver D d → Rattle.link_theory.specs.Receiver.Receiver
+receiver_of r = joined (r.symbols.incoming) (line_of r.half) r.cutter r.packets r.waiting
+
+-- what a call answers, and what the sender or the receiver is then
+pub record After (A S : Type 0) : Type 0 where
+  pub answer : A
+  pub state : S
+  pub settings : Settings
+
+abbrev pub sender_after : {A D : Type 0} {d : Ghosts D} → A → Sender D d → After A Rattle.link_theory.specs.Sender.Sender
+sender_after answer s = record { answer = answer; state = sender_of s; settings = settings_of s }
+
+abbrev pub receiver_after : {A D : Type 0} {d : Ghosts D} → A → Receiver D d → After A Rattle.link_theory.specs.Receiver.Receiver
+receiver_after answer r = record { answer = answer; state = receiver_of r; settings = receives_by r }
+
+-- load, with this packet
+abbrev pub load_of : {D : Type 0} {d : Ghosts D} → Sender D d → List ℕ → After (Result ℕ LoadRefusal) Rattle.link_theory.specs.Sender.Sender
+load_of s packet =
+    let x : Loaded = loaded (settings_of s).bits (settings_of s).delays packet (sender_of s) in
+    record { answer = x.answer; state = x.sender; settings = settings_of s }
+
+-- draw
+abbrev pub draw_of : {D : Type 0} {d : Ghosts D} → Sender D d → After (Result ℕ DrawRefusal) Rattle.link_theory.specs.Sender.Sender
+draw_of s =
+    let x : Drew = drew (settings_of s).bits (sender_of s) in
+    record { answer = x.answer; state = x.sender; settings = settings_of s }
+
+-- take, with this symbol
+abbrev pub take_of : {D : Type 0} {d : Ghosts D} → Receiver D d → ℕ → After (Result Bool TakeRefusal) Rattle.link_theory.specs.Receiver.Receiver
+take_of r symbol =
+    let x : Took = took (receives_by r).bits (receives_by r).delays symbol (receiver_of r) in
+    record { answer = x.answer; state = x.receiver; settings = receives_by r }
+
+-- collect, with a buffer that holds this
+abbrev pub collect_of : {D : Type 0} {d : Ghosts D} → Receiver D d → List ℕ → After (Result (ℕ × ℕ) CollectRefusal) Rattle.link_theory.specs.Receiver.Receiver
+collect_of r buffer =
+    let x : Collected = collected buffer (receiver_of r) in
+    record { answer = x.answer; state = x.receiver; settings = receives_by r }

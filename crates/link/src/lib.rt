@@ -3,12 +3,10 @@
 
 mod both;
 mod cutter;
-mod outcome;
 mod reader;
 mod receiver;
 mod sender;
 
 pub use both::Link;
-pub use outcome::Outcome;
 pub use receiver::Receiver;
 pub use sender::Sender;

@@ -1,15 +1,14 @@
 // Words to outcomes: each is read, and its packet restored at its position in the group of eight.
-ghost use Rattle.std.specs.Prelude.{◌≡◌, ◌%◌, ◌<◌, [], ◌∷◌, length, take, IfOk};
+ghost use Rattle.std.specs.Prelude.{◌≡◌, ◌%◌, ◌<◌, [], ◌∷◌, length, take, None, IfOk};
 ghost use Rattle.framing.specs.Group.{expected_after};
 ghost use Rattle.framing.specs.Mask.{restored};
 ghost use Rattle.framing.specs.Mending.{mended};
-ghost use Rattle.framing.specs.declared.group.Expected.TheVariants.{Unknown};
 ghost use Rattle.link_theory.specs.Receiver.{event_of, outcome_of, reader_after};
-ghost use Rattle.link.specs.Receiver.{meant, placed_at, reader_of};
+ghost use Rattle.link.specs.Placed.{placed_at};
 
-use crate::outcome::Outcome;
 use framing::{Event, Group, WordRefusal, derandomize, mend};
-use link_theory::LinkFault;
+use link_theory::{LinkFault, Outcome};
+use std::marker::Model;
 
 // `frame` is the number of the next word.
 #[derive(Drop)]
@@ -18,18 +17,21 @@ pub struct PacketReader {
     group: Group,
 }
 
+impl Model for PacketReader {
+    ghost use Rattle.link_theory.specs.Receiver.{Reader};
+
+    ghost Value = { Reader };
+
+    ghost view = { λ r. record { frame = r.frame; expected = r.group } };
+}
+
 // What was met, by the word reader's answer and the first byte that it left.
 fn event_of(answer: Result<u8, WordRefusal>, first: u8) -> Event
     ensures { result ≡ event_of (record { answer = answer; buffer = first ∷ [] }) }
 {
     match answer {
-        Ok(_) => {
-            if first == 0xB8 {
-                Event::GroupStart
-            } else {
-                Event::Plain
-            }
-        }
+        Ok(_) if first == 0xB8 => Event::GroupStart,
+        Ok(_) => Event::Plain,
         Err(_) => Event::Lost,
     }
 }
@@ -48,7 +50,7 @@ fn packet_of(word: &[u8], position: u8) -> [u8; 188]
 impl PacketReader {
     // The first word has frame number 0, and no position is known.
     pub(crate) fn new() -> PacketReader
-        ensures { reader_of result ≡ record { frame = 0; expected = Unknown } }
+        ensures { result ≡ record { frame = 0; expected = None } }
     {
         PacketReader {
             frame: 0,
@@ -59,32 +61,28 @@ impl PacketReader {
     // Mends a word, and answers its position and how many bytes were corrected.
     fn place(&mut self, word: &mut [u8]) -> Result<(u8, u8), LinkFault>
         requires { length word.old ≡ 204 }
-        ensures placed { result ≡ placed_at self.old.group.expected (mended word.old) }
+        ensures placed { result ≡ placed_at self.old.expected (mended word.old) }
         ensures within { IfOk result (λ p. p.0 < 8) }
         ensures buffer { word.new ≡ (mended word.old).buffer }
-        ensures group { self.new.group.expected ≡ expected_after self.old.group.expected (event_of (mended word.old)) }
-        ensures frame { self.new.frame ≡ self.old.frame }
+        ensures reader { self.new ≡ record { frame = self.old.frame; expected = expected_after self.old.expected (event_of (mended word.old)) } }
     {
         let answer = mend(word);
         let position = self.group.meet(event_of(answer, word[0]));
         let count = answer?;
-        match position {
-            Some(g) => Ok((g, count)),
-            None => Err(LinkFault::Group),
-        }
+        let g = position.ok_or(LinkFault::Group)?;
+        Ok((g, count))
     }
 
     // The outcome of a word.
-    pub(crate) fn read(&mut self, word: [u8; 204]) -> Outcome
-        ensures outcome { meant result ≡ outcome_of (reader_of self.old) (mended word) }
-        ensures reader { reader_of self.new ≡ reader_after (reader_of self.old) (mended word) }
+    pub(crate) fn read(&mut self, mut word: [u8; 204]) -> Outcome
+        ensures outcome { result ≡ outcome_of self.old (mended word) }
+        ensures reader { self.new ≡ reader_after self.old (mended word) }
     {
-        let mut copy = word;
         let frame = self.frame;
         self.frame = frame.wrapping_add(1);
-        match self.place(&mut copy) {
+        match self.place(&mut word) {
             Ok((position, count)) => Outcome::Packet {
-                bytes: packet_of(&copy, position),
+                bytes: packet_of(&word, position),
                 frame,
                 count,
             },

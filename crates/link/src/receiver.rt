@@ -1,19 +1,17 @@
 // The receiver: symbols in, packets out.
-ghost use Rattle.std.specs.Prelude.{◌≡◌, ℕ, List, length, None};
+ghost use Rattle.std.specs.Prelude.{◌≡◌, ℕ, List, None};
 ghost use Rattle.delay_line.specs.Laws.{CascadeIsOne};
-ghost use Rattle.delay_line.specs.Line.{line_at, onward, passed};
+ghost use Rattle.delay_line.specs.Halves.{line_of};
+ghost use Rattle.delay_line.specs.Line.{onward, passed};
 ghost use Rattle.framing.specs.Laws.{MisalignedUnread};
 ghost use Rattle.link_theory.specs.Delivery.{Delivery};
-ghost use Rattle.link_theory.specs.Receiver.{begun, collected, cut, fresh_receiver, on_word, took};
-ghost use Rattle.link.specs.Models.{receiver_of, receives_by};
-ghost use Rattle.link.specs.Receiver.{cutter_of, reader_of, waiting_of};
-ghost use Rattle.symbols.specs.Models.{incoming_of};
+ghost use Rattle.link_theory.specs.Receiver.{begun, collected, cut, fresh_receiver, on_word};
+ghost use Rattle.link.specs.Models.{collect_of, receiver_after, receiver_of, receives_by, take_of};
 
 use crate::cutter::WordCutter;
-use crate::outcome::Outcome;
 use crate::reader::PacketReader;
 use delay_line::{DelayLine, Half};
-use link_theory::{CollectRefusal, TakeRefusal};
+use link_theory::{CollectRefusal, Outcome, TakeRefusal};
 use symbols::{Mapping, SymbolReader};
 
 // Over the receiving half of any delay line.
@@ -26,19 +24,11 @@ pub struct Receiver<D: DelayLine> {
     waiting: Option<Outcome>,
 }
 
-// Writes a packet into a buffer of its length.
-fn hand_over(buffer: &mut [u8], packet: [u8; 188])
-    requires { length buffer.old ≡ 188 }
-    ensures { buffer.new ≡ packet }
-{
-    buffer.copy_from_slice(&packet);
-}
-
 impl<D: DelayLine> Receiver<D> {
     // A fresh receiver over a delay line, which is cleared.
     pub fn new(mapping: Mapping, line: D) -> Receiver<D>
-        ensures fresh { receiver_of D.DelayLine.pending result ≡ fresh_receiver (D.DelayLine.frames line) }
-        ensures settings { receives_by D.DelayLine.delay D.DelayLine.frames result ≡ record { bits = mapping.bits; delays = D.DelayLine.delay line; lag = D.DelayLine.frames line } }
+        ensures fresh { receiver_of result ≡ fresh_receiver (D.DelayLine.frames line) }
+        ensures settings { receives_by result ≡ record { bits = mapping.bits; delays = D.DelayLine.delay line; lag = D.DelayLine.frames line } }
     {
         let half = Half::new(line);
         let cutter = WordCutter::new(half.lag());
@@ -54,21 +44,17 @@ impl<D: DelayLine> Receiver<D> {
     // A byte goes through the delay line; where that completes a word, the word is read and its outcome waits.
     fn hear(&mut self, byte: u8)
         requires { self.old.waiting ≡ None }
-        ensures receiver { receiver_of D.DelayLine.pending self.new ≡ on_word (incoming_of self.old.symbols) (onward (D.DelayLine.delay self.old.half.line) (line_at (D.DelayLine.pending self.old.half.line) self.old.half.slot.number) byte) (reader_of self.old.packets) (cut (passed (D.DelayLine.delay self.old.half.line) (line_at (D.DelayLine.pending self.old.half.line) self.old.half.slot.number) byte) (cutter_of self.old.cutter)) }
-        ensures settings { receives_by D.DelayLine.delay D.DelayLine.frames self.new ≡ receives_by D.DelayLine.delay D.DelayLine.frames self.old }
+        ensures receiver { receiver_of self.new ≡ on_word (self.old.symbols.incoming) (onward (receives_by self.old).delays (line_of self.old.half) byte) self.old.packets (cut (passed (receives_by self.old).delays (line_of self.old.half) byte) self.old.cutter) }
+        ensures settings { receives_by self.new ≡ receives_by self.old }
     {
-        let answer = self.half.pass(byte);
-        if self.cutter.push(answer) {
-            let word = self.cutter.word();
+        if let Some(word) = self.cutter.push(self.half.pass(byte)) {
             self.waiting = Some(self.packets.read(word));
         }
     }
 
     // Takes a symbol below 2^m, while no outcome waits, and tells whether one waits now.
     pub fn take(&mut self, symbol: u8) -> Result<bool, TakeRefusal>
-        ensures answer { result ≡ (took self.old.symbols.mapping.bits (D.DelayLine.delay self.old.half.line) symbol (receiver_of D.DelayLine.pending self.old)).answer }
-        ensures receiver { receiver_of D.DelayLine.pending self.new ≡ (took self.old.symbols.mapping.bits (D.DelayLine.delay self.old.half.line) symbol (receiver_of D.DelayLine.pending self.old)).receiver }
-        ensures settings { receives_by D.DelayLine.delay D.DelayLine.frames self.new ≡ receives_by D.DelayLine.delay D.DelayLine.frames self.old }
+        ensures { receiver_after result self.new ≡ take_of self.old symbol }
     {
         if symbol as u32 >= 1 << self.symbols.mapping().bits() {
             return Err(TakeRefusal::NotASymbol);
@@ -82,16 +68,15 @@ impl<D: DelayLine> Receiver<D> {
         Ok(self.waiting.is_some())
     }
 
+    // What `collect` does, apart from it so that the laws there need no proof at each exit.
     fn spend(&mut self, buffer: &mut [u8]) -> Result<(u32, u8), CollectRefusal>
-        ensures answer { result ≡ (collected buffer.old (receiver_of D.DelayLine.pending self.old)).answer }
-        ensures buffer { buffer.new ≡ (collected buffer.old (receiver_of D.DelayLine.pending self.old)).buffer }
-        ensures receiver { receiver_of D.DelayLine.pending self.new ≡ (collected buffer.old (receiver_of D.DelayLine.pending self.old)).receiver }
-        ensures settings { receives_by D.DelayLine.delay D.DelayLine.frames self.new ≡ receives_by D.DelayLine.delay D.DelayLine.frames self.old }
+        ensures done { receiver_after result self.new ≡ collect_of self.old buffer.old }
+        ensures buffer { buffer.new ≡ (collected buffer.old (receiver_of self.old)).buffer }
     {
         if buffer.len() != 188 {
             return Err(CollectRefusal::Length);
         }
-        match self.waiting {
+        match self.waiting.take() {
             None => Err(CollectRefusal::NothingWaits),
             Some(
                 Outcome::Packet {
@@ -100,14 +85,10 @@ impl<D: DelayLine> Receiver<D> {
                     count,
                 },
             ) => {
-                hand_over(buffer, bytes);
-                self.waiting = None;
+                buffer.copy_from_slice(&bytes);
                 Ok((frame, count))
             }
-            Some(Outcome::Fault { frame, fault }) => {
-                self.waiting = None;
-                Err(CollectRefusal::Fault { frame, fault })
-            }
+            Some(Outcome::Fault { frame, fault }) => Err(CollectRefusal::Fault { frame, fault }),
         }
     }
 
@@ -115,10 +96,8 @@ impl<D: DelayLine> Receiver<D> {
     // calls together promise stands here too: every packet that is loaded is collected, in order and once; delay lines in a cascade are
     // one delay line; and words out of step are not read.
     pub fn collect(&mut self, buffer: &mut [u8]) -> Result<(u32, u8), CollectRefusal>
-        ensures answer { result ≡ (collected buffer.old (receiver_of D.DelayLine.pending self.old)).answer }
-        ensures buffer { buffer.new ≡ (collected buffer.old (receiver_of D.DelayLine.pending self.old)).buffer }
-        ensures receiver { receiver_of D.DelayLine.pending self.new ≡ (collected buffer.old (receiver_of D.DelayLine.pending self.old)).receiver }
-        ensures settings { receives_by D.DelayLine.delay D.DelayLine.frames self.new ≡ receives_by D.DelayLine.delay D.DelayLine.frames self.old }
+        ensures done { receiver_after result self.new ≡ collect_of self.old buffer.old }
+        ensures buffer { buffer.new ≡ (collected buffer.old (receiver_of self.old)).buffer }
         ensures delivery { Delivery }
         ensures composition { CascadeIsOne }
         ensures misalignment { (w : List ℕ) → MisalignedUnread w }
@@ -128,8 +107,8 @@ impl<D: DelayLine> Receiver<D> {
 
     // Makes the receiver fresh.
     pub fn begin(&mut self)
-        ensures receiver { receiver_of D.DelayLine.pending self.new ≡ begun (D.DelayLine.frames self.old.half.line) }
-        ensures settings { receives_by D.DelayLine.delay D.DelayLine.frames self.new ≡ receives_by D.DelayLine.delay D.DelayLine.frames self.old }
+        ensures receiver { receiver_of self.new ≡ begun (receives_by self.old).lag }
+        ensures settings { receives_by self.new ≡ receives_by self.old }
     {
         self.symbols.clear();
         self.half.clear();

@@ -1,9 +1,8 @@
 // The sender: packets in, symbols out.
 ghost use Rattle.std.specs.Prelude.{◌≡◌, ◌<◌, length};
-ghost use Rattle.link_theory.specs.Sender.{after_load, drew, fresh_sender, loaded};
+ghost use Rattle.link_theory.specs.Sender.{after_load, fresh_sender};
 ghost use Rattle.link_theory.specs.Symbols.{SymbolsOfPackets};
-ghost use Rattle.link.specs.Models.{sender_of, settings_of};
-ghost use Rattle.symbols.specs.Models.{outgoing_of};
+ghost use Rattle.link.specs.Models.{draw_of, load_of, sender_after, sender_of, settings_of};
 
 use delay_line::{DelayLine, Half};
 use framing::{next_position, sent_word};
@@ -21,8 +20,8 @@ pub struct Sender<D: DelayLine> {
 impl<D: DelayLine> Sender<D> {
     // A fresh sender over a delay line, which is cleared.
     pub fn new(mapping: Mapping, line: D) -> Sender<D>
-        ensures fresh { sender_of D.DelayLine.pending result ≡ fresh_sender }
-        ensures settings { settings_of D.DelayLine.delay D.DelayLine.frames result ≡ record { bits = mapping.bits; delays = D.DelayLine.delay line; lag = D.DelayLine.frames line } }
+        ensures fresh { sender_of result ≡ fresh_sender }
+        ensures settings { settings_of result ≡ record { bits = mapping.bits; delays = D.DelayLine.delay line; lag = D.DelayLine.frames line } }
     {
         Sender {
             half: Half::new(line),
@@ -33,11 +32,11 @@ impl<D: DelayLine> Sender<D> {
 
     // Randomizes and codes a packet, passes its word through the delay line, and answers the number of undrawn bits.
     fn accept(&mut self, packet: &[u8]) -> u32
-        requires packet_len { length packet.now ≡ 188 }
-        requires writer_len_bound { length (outgoing_of self.old.writer).undrawn < self.old.writer.mapping.bits }
-        ensures sender { sender_of D.DelayLine.pending self.new ≡ after_load (D.DelayLine.delay self.old.half.line) packet.now (sender_of D.DelayLine.pending self.old) }
-        ensures answer { result ≡ length (outgoing_of self.new.writer).undrawn }
-        ensures settings { settings_of D.DelayLine.delay D.DelayLine.frames self.new ≡ settings_of D.DelayLine.delay D.DelayLine.frames self.old }
+        requires whole { length packet.now ≡ 188 }
+        requires drawn { length (sender_of self.old).outgoing.undrawn < (settings_of self.old).bits }
+        ensures sender { sender_of self.new ≡ after_load (settings_of self.old).delays packet.now (sender_of self.old) }
+        ensures answer { result ≡ length (sender_of self.new).outgoing.undrawn }
+        ensures settings { settings_of self.new ≡ settings_of self.old }
     {
         let mut message = [0u8; 188];
         message.copy_from_slice(packet);
@@ -50,9 +49,7 @@ impl<D: DelayLine> Sender<D> {
 
     // Takes a packet of 188 bytes that begins with 47h, while no symbol can be drawn, and answers the number of undrawn bits.
     pub fn load(&mut self, packet: &[u8]) -> Result<u32, LoadRefusal>
-        ensures answer { result ≡ (loaded self.old.writer.mapping.bits (D.DelayLine.delay self.old.half.line) packet.now (sender_of D.DelayLine.pending self.old)).answer }
-        ensures sender { sender_of D.DelayLine.pending self.new ≡ (loaded self.old.writer.mapping.bits (D.DelayLine.delay self.old.half.line) packet.now (sender_of D.DelayLine.pending self.old)).sender }
-        ensures settings { settings_of D.DelayLine.delay D.DelayLine.frames self.new ≡ settings_of D.DelayLine.delay D.DelayLine.frames self.old }
+        ensures done { sender_after result self.new ≡ load_of self.old packet.now }
     {
         if packet.len() != 188 {
             return Err(LoadRefusal::Length);
@@ -66,23 +63,17 @@ impl<D: DelayLine> Sender<D> {
         Ok(self.accept(packet))
     }
 
+    // What `draw` does, apart from it so that the law there needs no proof at each exit.
     fn next_symbol(&mut self) -> Result<u8, DrawRefusal>
-        ensures answer { result ≡ (drew self.old.writer.mapping.bits (sender_of D.DelayLine.pending self.old)).answer }
-        ensures sender { sender_of D.DelayLine.pending self.new ≡ (drew self.old.writer.mapping.bits (sender_of D.DelayLine.pending self.old)).sender }
-        ensures settings { settings_of D.DelayLine.delay D.DelayLine.frames self.new ≡ settings_of D.DelayLine.delay D.DelayLine.frames self.old }
+        ensures done { sender_after result self.new ≡ draw_of self.old }
     {
-        match self.writer.draw() {
-            Some(symbol) => Ok(symbol),
-            None => Err(DrawRefusal::Exhausted),
-        }
+        self.writer.draw().ok_or(DrawRefusal::Exhausted)
     }
 
     // The next symbol, while enough bits are undrawn. What all calls together promise stands here too: the symbols are those that
     // EN 300 749 has for the packets that were loaded.
     pub fn draw(&mut self) -> Result<u8, DrawRefusal>
-        ensures answer { result ≡ (drew self.old.writer.mapping.bits (sender_of D.DelayLine.pending self.old)).answer }
-        ensures sender { sender_of D.DelayLine.pending self.new ≡ (drew self.old.writer.mapping.bits (sender_of D.DelayLine.pending self.old)).sender }
-        ensures settings { settings_of D.DelayLine.delay D.DelayLine.frames self.new ≡ settings_of D.DelayLine.delay D.DelayLine.frames self.old }
+        ensures done { sender_after result self.new ≡ draw_of self.old }
         ensures symbols { SymbolsOfPackets }
     {
         self.next_symbol()

@@ -1,5 +1,5 @@
 -- Sender, channel and receiver together: the delivery law.
-use Rattle.std.proofs.Common.{◌≡◌, ℕ, ◌+◌, ◌-◌, ◌*◌, ◌%◌, ◌<◌, ◌≤◌, min, Bool, true, false, not, eqb, ltb, List, [], ◌∷◌, ◌++◌, length, get_or, take, drop, Ok, sym, refl, ap, ◌∙◌, subst, mul-le-mul_left, arith}
+use Rattle.std.proofs.Common.{◌≡◌, ℕ, ◌+◌, ◌-◌, ◌*◌, ◌%◌, ◌<◌, ◌≤◌, min, Bool, true, false, not, eqb, ltb, List, [], ◌∷◌, ◌++◌, length, get_or, take, drop, None, Ok, sym, refl, ap, ◌∙◌, subst, mul-le-mul_left, arith}
 use Rattle.std.proofs.lemmas.List.{length-append, length-drop, length-take-le, get_or-take, get_or-drop}
 use Rattle.std.proofs.lemmas.Bool.{cond-false, le-ltb, not_from_true, eq-eqb, both_ways}
 use Rattle.coding_theory.specs.Words.{differ}
@@ -7,7 +7,6 @@ use Rattle.delay_line.specs.Line.{Line, fresh_line, carried, Undoes}
 use Rattle.delay_line.proofs.OneToOne.{receiving_delays}
 use Rattle.delay_line.proofs.Runs.{length_carried, carried_at}
 use Rattle.framing.specs.Words.{Packet, sent_word}
-use Rattle.framing.specs.declared.group.Expected.TheVariants.{Unknown}
 use Rattle.framing.proofs.Sent.{sent_begun}
 use Rattle.symbols.specs.Bits.{number, octets}
 use Rattle.symbols.specs.Closed.{byte_of, damaged, arrived}
@@ -20,7 +19,8 @@ use Rattle.symbols.proofs.Octets.{length_octets, line_back}
 use Rattle.symbols.proofs.Reading.{heard_in, heard_cut}
 use Rattle.symbols.proofs.Tuples.{length_bits_of}
 use Rattle.link_theory.specs.Delivery.{Since, since, word, line_byte, damage, altered, Exists, outcome, Delivered, Delivery, BeginIsFresh}
-use Rattle.link_theory.specs.Receiver.{fault, fresh_receiver}
+use Rattle.link_theory.specs.Receiver.{fresh_receiver}
+use Rattle.link_theory.specs.declared.outcome.Outcome.TheVariants.{Fault as fault}
 use Rattle.link_theory.specs.Runs.{Plan, Sound, called, Ends, Entry, ran, log, packets_in, collected_in}
 use Rattle.link_theory.specs.Sender.{Sender, fresh_sender}
 use Rattle.link_theory.specs.declared.refusal.LinkFault.TheVariants.{Group}
@@ -192,7 +192,7 @@ module _ (P : Plan) (S : Sound P) (line : Line) (at-start : line.slot ≡ 0) (H 
           ∙ ap (λ y. record { answer = Ok y; buffer = sent_word ((H.position + n) % 8) (get_or H.packets n []) }) differ_altered,
     )
 
-  all_delivered : Delivered P H (read_all (record { frame = 0; expected = Unknown }) ws)
+  all_delivered : Delivered P H (read_all (record { frame = 0; expected = None }) ws)
   unfolding outcome
   all_delivered = record {
     exist = λ n. (λ h. exists n (subst (λ y. n < y) (length_read _ ws) h), λ h. subst (λ y. n < y) (sym (length_read _ ws)) (has n h));
@@ -200,10 +200,10 @@ module _ (P : Plan) (S : Sound P) (line : Line) (at-start : line.slot ≡ 0) (H 
     in_order = λ n h. each n (subst (λ y. n < y) (length_read _ ws) h);
   }
     where
-      none_yet : expecting H.position 0 ≡ Unknown
+      none_yet : expecting H.position 0 ≡ None
       none_yet = cond-false (ltb ((8 - H.position) % 8) 0) _ _ (le-ltb _ 0 (omega arith))
 
-      each : (n : ℕ) → n < length ws → get_or (read_all (record { frame = 0; expected = Unknown }) ws) n (fault 0 Group) ≡ due H.position n (altered P H n) (get_or H.packets n [])
+      each : (n : ℕ) → n < length ws → get_or (read_all (record { frame = 0; expected = None }) ws) n (fault 0 Group) ≡ due H.position n (altered P H n) (get_or H.packets n [])
       each n l =
           ap (λ o. get_or (read_all (record { frame = 0; expected = o }) ws) n (fault 0 Group)) (sym none_yet)
           ∙ read_at H.position small (altered P H) (λ i. get_or H.packets i []) 0 ws
@@ -225,7 +225,7 @@ delivers P S before after r none_left fresh nb octet le few =
     let u : List Bool = (ran P after start).sender.outgoing.undrawn in
     let sent : bits_of P.width H.turn H.drawn ++ u ≡ octets (carried P.out s.line (words H.position H.packets)) =
     ap (λ t. bits_of P.width t H.drawn ++ u) (sym B.turned) ∙ A.bits ∙ ap (λ l. l ++ octets (carried P.out s.line (words H.position H.packets))) none_left in
-    let same : collected_in es ++ listed (ran P after start).receiver.waiting ≡ read_all (record { frame = 0; expected = Unknown }) (words_from P H.accepted) =
+    let same : collected_in es ++ listed (ran P after start).receiver.waiting ≡ read_all (record { frame = 0; expected = None }) (words_from P H.accepted) =
     receives P after start nb ∙ ap (λ q. listed q.waiting ++ outs P.width P.back q H.accepted) fresh ∙ outs_stages P.width P.back (fresh_receiver P.lag) H.accepted in
     subst (Delivered P H) (sym same) (all_delivered P S s.line ready.slot H (omega arith) A.packets octet u sent le few)
 

@@ -8,7 +8,7 @@ use Rattle.coding_theory.proofs.CodeWords.{below_zeros, horner_zeros}
 use Rattle.coding_theory.proofs.Fields.{bytes_lawful}
 use Rattle.delay_line.specs.Cells.{always, twelfths}
 use Rattle.delay_line.specs.Line.{Delays, Undoes}
-use Rattle.delay_line.specs.declared.interleaver.Direction.TheVariants.{Sending, Receiving}
+use Rattle.delay_line.specs.declared.direction.Direction.TheVariants.{Sending, Receiving}
 use Rattle.delay_line.specs.InSeries.{series_delays, series_undoes}
 use Rattle.framing.specs.Mending.{tried, mended}
 use Rattle.framing.specs.declared.refusal.WordFault.TheVariants.{Sync}

@@ -1,5 +1,5 @@
 -- Words that are mended to what was sent, and their positions in groups of eight.
-use Rattle.std.proofs.Common.{◌≡◌, ℕ, zero, suc, ◌+◌, ◌-◌, ◌%◌, ◌<◌, ◌≤◌, Bool, true, false, cond, eqb, ltb, List, [], ◌∷◌, length, get_or, take, Some, Ok, sym, refl, ap, ◌∙◌, subst, ap₂, arith}
+use Rattle.std.proofs.Common.{◌≡◌, ℕ, zero, suc, ◌+◌, ◌-◌, ◌%◌, ◌<◌, ◌≤◌, Bool, true, false, cond, eqb, ltb, List, [], ◌∷◌, length, get_or, take, Some, None, Option, Ok, sym, refl, ap, ◌∙◌, subst, ap₂, arith}
 use native.Mathlib.Decide.{ℕ_discrete}
 use Rattle.std.proofs.lemmas.List.{take_at}
 use Rattle.std.proofs.lemmas.Bool.{cond_both, cond-true, cond-false, eq-eqb, ne_eqb, lt-ltb, le-ltb, ltb-true, ltb-false}
@@ -12,13 +12,13 @@ use Rattle.framing.specs.Mending.{Mended, is_sync, tried, mended}
 use Rattle.framing.specs.Words.{Packet, coded, sent_word}
 use Rattle.framing.specs.declared.group.Event.{Event}
 use Rattle.framing.specs.declared.group.Event.TheVariants.{GroupStart, Plain}
-use Rattle.framing.specs.declared.group.Expected.{Expected}
-use Rattle.framing.specs.declared.group.Expected.TheVariants.{Unknown, Position}
 use Rattle.framing.proofs.Coding.{first_coded}
 use Rattle.framing.proofs.Masking.{read_back}
 use Rattle.framing.proofs.Nearest.{nearest_is_near}
 use Rattle.framing.proofs.Sent.{length_randomized, first_sent, sent_begun}
-use Rattle.link_theory.specs.Receiver.{Outcome, packet, fault, Reader, placed, outcome_of, next_frame, reader_after}
+use Rattle.link_theory.specs.Receiver.{Reader, placed, outcome_of, next_frame, reader_after}
+use Rattle.link_theory.specs.declared.outcome.Outcome.{Outcome}
+use Rattle.link_theory.specs.declared.outcome.Outcome.TheVariants.{Packet as packet, Fault as fault}
 use Rattle.link_theory.specs.declared.refusal.LinkFault.TheVariants.{Group}
 use Rattle.link_theory.proofs.Receives.{read_all}
 
@@ -43,8 +43,8 @@ unfolding sent_word coded
 unpacked g p size sync = ap (restored g) (take_at (randomized g p) _ 188 (length_randomized g p ∙ size)) ∙ read_back g p sync
 
 -- the position that is expected before word n, g being that of word 0: none is known up to the first word at position 0
-abbrev pub expecting : ℕ → ℕ → Expected
-expecting g n = cond (ltb ((8 - g) % 8) n) (Position ((g + n) % 8)) Unknown
+abbrev pub expecting : ℕ → ℕ → Option ℕ
+expecting g n = cond (ltb ((8 - g) % 8) n) (Some ((g + n) % 8)) None
 
 -- the outcome of word n, which is mended with the count c to the word of the packet p
 abbrev pub due : (g n c : ℕ) → List ℕ → Outcome
@@ -54,11 +54,11 @@ due g n c p = cond (ltb n ((8 - g) % 8)) (fault (n % 4294967296) Group) (packet 
 abbrev pub reader_at : ℕ → ℕ → Reader
 reader_at g n = record { frame = n % 4294967296; expected = expecting g n }
 
-start_known : (e : Expected) → (position_of e GroupStart ≡ Some 0) × (expected_after e GroupStart ≡ Position 1)
-start_known Unknown = (refl, refl)
-start_known (Position g) = (refl, refl)
+start_known : (e : Option ℕ) → (position_of e GroupStart ≡ Some 0) × (expected_after e GroupStart ≡ Some 1)
+start_known None = (refl, refl)
+start_known (Some g) = (refl, refl)
 
-plain_known : (h : ℕ) → (h ≡ 0 → ⊥) → (position_of (Position h) Plain ≡ Some h) × (expected_after (Position h) Plain ≡ Position (following h))
+plain_known : (h : ℕ) → (h ≡ 0 → ⊥) → (position_of (Some h) Plain ≡ Some h) × (expected_after (Some h) Plain ≡ Some (following h))
 plain_known zero ne = absurd (ne refl)
 plain_known (suc h) ne = (refl, refl)
 
@@ -77,7 +77,7 @@ module _ (g n c : ℕ) (p : List ℕ) (lg : g < 8) (size : length p ≡ 188) (sy
   sent = sent_word ((g + n) % 8) p
 
   -- what is read where the event v is met and the position e is expected
-  abbrev Reads : Expected → Event → Type 0
+  abbrev Reads : Option ℕ → Event → Type 0
   Reads e v =
       (placed (n % 4294967296) c sent (position_of e v) ≡ due g n c p)
       × (◌≡◌ {A = Reader} (record { frame = next_frame (n % 4294967296); expected = expected_after e v }) (reader_at g (n + 1)))
@@ -85,11 +85,11 @@ module _ (g n c : ℕ) (p : List ℕ) (lg : g < 8) (size : length p ≡ 188) (sy
   frame_next : next_frame (n % 4294967296) ≡ (n + 1) % 4294967296
   frame_next = omega arith
 
-  next_reader : (a b : Expected) → a ≡ b → ◌≡◌ {A = Reader} (record { frame = next_frame (n % 4294967296); expected = a }) (record { frame = (n + 1) % 4294967296; expected = b })
-  next_reader a b e = ap₂ (λ (x : ℕ) (y : Expected). record { frame = x; expected = y }) frame_next e
+  next_reader : (a b : Option ℕ) → a ≡ b → ◌≡◌ {A = Reader} (record { frame = next_frame (n % 4294967296); expected = a }) (record { frame = (n + 1) % 4294967296; expected = b })
+  next_reader a b e = ap₂ (λ (x : ℕ) (y : Option ℕ). record { frame = x; expected = y }) frame_next e
 
   -- a word with a position
-  known : (e : Expected) (v : Event) → (8 - g) % 8 ≤ n → position_of e v ≡ Some ((g + n) % 8) → expected_after e v ≡ Position ((g + (n + 1)) % 8) → Reads e v
+  known : (e : Option ℕ) (v : Event) → (8 - g) % 8 ≤ n → position_of e v ≡ Some ((g + n) % 8) → expected_after e v ≡ Some ((g + (n + 1)) % 8) → Reads e v
   known e v le ep ee = (
     ap (placed (n % 4294967296) c sent) ep
         ∙ ap (λ y. packet y (n % 4294967296) c) (unpacked ((g + n) % 8) p size sync)
@@ -98,22 +98,22 @@ module _ (g n c : ℕ) (p : List ℕ) (lg : g < 8) (size : length p ≡ 188) (sy
   )
 
   -- a plain word while no position is known
-  unknown : n < (8 - g) % 8 → Reads Unknown Plain
+  unknown : n < (8 - g) % 8 → Reads None Plain
   unknown lt = (
     sym (cond-true (ltb n ((8 - g) % 8)) _ _ (lt-ltb n ((8 - g) % 8) lt)),
-    next_reader Unknown (expecting g (n + 1)) (sym (cond-false (ltb ((8 - g) % 8) (n + 1)) _ _ (le-ltb ((8 - g) % 8) (n + 1) (omega arith)))),
+    next_reader None (expecting g (n + 1)) (sym (cond-false (ltb ((8 - g) % 8) (n + 1)) _ _ (le-ltb ((8 - g) % 8) (n + 1) (omega arith)))),
   )
 
   started : (g + n) % 8 ≡ 0 → Reads (expecting g n) GroupStart
   started e =
       let k = start_known (expecting g n) in
-      known (expecting g n) GroupStart (omega arith) (k.0 ∙ ap Some (sym e)) (k.1 ∙ ap Position (let q : 1 ≡ (g + (n + 1)) % 8 = omega arith in q))
+      known (expecting g n) GroupStart (omega arith) (k.0 ∙ ap Some (sym e)) (k.1 ∙ ap Some (let q : 1 ≡ (g + (n + 1)) % 8 = omega arith in q))
 
-  plain : ((g + n) % 8 ≡ 0 → ⊥) → (b : Bool) → ltb ((8 - g) % 8) n ≡ b → Reads (cond b (Position ((g + n) % 8)) Unknown) Plain
+  plain : ((g + n) % 8 ≡ 0 → ⊥) → (b : Bool) → ltb ((8 - g) % 8) n ≡ b → Reads (cond b (Some ((g + n) % 8)) None) Plain
   plain ne true t =
       let k = plain_known ((g + n) % 8) ne in
-      known (Position ((g + n) % 8)) Plain (omega (arith, ltb-true ((8 - g) % 8) n t)) k.0
-      (k.1 ∙ ap Position (following_is ((g + n) % 8) (omega arith) ∙ (let q : ((g + n) % 8 + 1) % 8 ≡ (g + (n + 1)) % 8 = omega arith in q)))
+      known (Some ((g + n) % 8)) Plain (omega (arith, ltb-true ((8 - g) % 8) n t)) k.0
+      (k.1 ∙ ap Some (following_is ((g + n) % 8) (omega arith) ∙ (let q : ((g + n) % 8 + 1) % 8 ≡ (g + (n + 1)) % 8 = omega arith in q)))
   plain ne false t = unknown (omega (arith, ne, ltb-false ((8 - g) % 8) n t))
 
   pub word_read : Read (reader_at g n) (record { answer = Ok c; buffer = sent }) (due g n c p) (reader_at g (n + 1))

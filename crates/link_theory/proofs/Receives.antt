@@ -9,7 +9,9 @@ use Rattle.symbols.specs.Laws.{listed}
 use Rattle.symbols.proofs.Cutting.{Cut, cut_none, cut_cons}
 use Rattle.symbols.proofs.Reading.{heard_in}
 use Rattle.link_theory.specs.Delivery.{NoBegin}
-use Rattle.link_theory.specs.Receiver.{Outcome, packet, fault, Receiver, Cutter, Reader, cutter_of, reader_of, cut, outcome_of, reader_after, on_word, on_byte, on_symbol, waits, Took, took, spent, Collected, handed}
+use Rattle.link_theory.specs.Receiver.{Receiver, Cutter, Reader, cutter_of, reader_of, cut, outcome_of, reader_after, on_word, on_byte, on_symbol, waits, Took, took, spent, Collected, handed}
+use Rattle.link_theory.specs.declared.outcome.Outcome.{Outcome}
+use Rattle.link_theory.specs.declared.outcome.Outcome.TheVariants.{Packet as packet, Fault as fault}
 use Rattle.link_theory.specs.Runs.{Plan, Call, loads, draws, takes, collects, begins, Ends, taking, collecting, ran, log, arrival_in, outcome_in, accepted_in, collected_in}
 use Rattle.link_theory.specs.declared.refusal.TakeRefusal.{TakeRefusal}
 use Rattle.link_theory.specs.declared.refusal.TakeRefusal.TheVariants.{NotASymbol, Waiting}

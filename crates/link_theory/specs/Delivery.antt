@@ -4,7 +4,9 @@ use Rattle.framing.specs.Words.{sent_word}
 use Rattle.symbols.specs.Closed.{damaged, arrived}
 use Rattle.symbols.specs.Laws.{listed}
 use Rattle.symbols.specs.Turns.{last_turn}
-use Rattle.link_theory.specs.Receiver.{Outcome, packet, fault, Receiver, fresh_receiver}
+use Rattle.link_theory.specs.Receiver.{Receiver, fresh_receiver}
+use Rattle.link_theory.specs.declared.outcome.Outcome.{Outcome}
+use Rattle.link_theory.specs.declared.outcome.Outcome.TheVariants.{Packet as packet, Fault as fault}
 use Rattle.link_theory.specs.Runs.{Plan, Sound, Call, loads, draws, takes, collects, begins, Ends, Entry, ran, log, packets_in, drawn_in, accepted_in, collected_in}
 use Rattle.link_theory.specs.Sender.{fresh_sender}
 use Rattle.link_theory.specs.declared.refusal.LinkFault.TheVariants.{Group}

@@ -6,20 +6,14 @@ use Rattle.framing.specs.Mask.{restored}
 use Rattle.framing.specs.Mending.{Mended, mended}
 use Rattle.framing.specs.declared.group.Event.{Event}
 use Rattle.framing.specs.declared.group.Event.TheVariants.{GroupStart, Plain, Lost}
-use Rattle.framing.specs.declared.group.Expected.{Expected}
-use Rattle.framing.specs.declared.group.Expected.TheVariants.{Unknown}
 use Rattle.symbols.specs.Stages.{Incoming, fresh_incoming, Gives, heard}
+use Rattle.link_theory.specs.declared.outcome.Outcome.{Outcome}
+use Rattle.link_theory.specs.declared.outcome.Outcome.TheVariants.{Packet as packet, Fault as fault}
 use Rattle.link_theory.specs.declared.refusal.CollectRefusal.{CollectRefusal}
 use Rattle.link_theory.specs.declared.refusal.CollectRefusal.TheVariants.{Length, NothingWaits, Fault}
-use Rattle.link_theory.specs.declared.refusal.LinkFault.{LinkFault}
 use Rattle.link_theory.specs.declared.refusal.LinkFault.TheVariants.{Word, Group}
 use Rattle.link_theory.specs.declared.refusal.TakeRefusal.{TakeRefusal}
 use Rattle.link_theory.specs.declared.refusal.TakeRefusal.TheVariants.{NotASymbol, Waiting}
-
--- what a word becomes: a packet, its frame number and the number of bytes corrected in its word; or a fault
-pub data Outcome : Type 0 where
-  packet : (bytes : List ℕ) (frame count : ℕ) → Outcome
-  fault : (frame : ℕ) (fault : LinkFault) → Outcome
 
 -- the bits that fill no byte and the last turn, the receiving half of its delay line, how many of the line's answers are still to be dropped, the bytes of the
 -- word at hand, the frame number of that word, the group position that it should have, and the outcome that waits
@@ -29,12 +23,12 @@ pub record Receiver : Type 0 where
   pub skip : ℕ
   pub word : List ℕ
   pub frame : ℕ
-  pub expected : Expected
+  pub expected : Option ℕ
   pub waiting : Option Outcome
 
 -- asking a delay line for its lag answers at most 4,095; so many frames of its first answers are dropped
 abbrev pub fresh_receiver : (lag : ℕ) → Receiver
-fresh_receiver lag = record { incoming = fresh_incoming; line = fresh_line; skip = 204 * min lag 4095; word = []; frame = 0; expected = Unknown; waiting = None }
+fresh_receiver lag = record { incoming = fresh_incoming; line = fresh_line; skip = 204 * min lag 4095; word = []; frame = 0; expected = None; waiting = None }
 
 -- how the line's answers are cut into words
 pub record Cutter : Type 0 where
@@ -44,7 +38,7 @@ pub record Cutter : Type 0 where
 -- what is known of the next word
 pub record Reader : Type 0 where
   pub frame : ℕ
-  pub expected : Expected
+  pub expected : Option ℕ
 
 -- a receiver by its parts
 abbrev pub joined : Incoming → Line → Cutter → Reader → Option Outcome → Receiver

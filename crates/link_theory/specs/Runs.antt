@@ -1,7 +1,9 @@
 -- Runs of calls on one sender and one receiver, and what their log tells.
 use Rattle.std.specs.Prelude.{ℕ, ◌<◌, ◌≤◌, Bool, List, [], ◌∷◌, ◌++◌, Ok, Err, Result}
 use Rattle.delay_line.specs.Line.{Delays, Undoes}
-use Rattle.link_theory.specs.Receiver.{Outcome, packet, fault, Receiver, Took, took, Collected, collected, begun}
+use Rattle.link_theory.specs.Receiver.{Receiver, Took, took, Collected, collected, begun}
+use Rattle.link_theory.specs.declared.outcome.Outcome.{Outcome}
+use Rattle.link_theory.specs.declared.outcome.Outcome.TheVariants.{Packet as packet, Fault as fault}
 use Rattle.link_theory.specs.Sender.{Sender, Loaded, loaded, Drew, drew}
 use Rattle.link_theory.specs.declared.refusal.CollectRefusal.{CollectRefusal}
 use Rattle.link_theory.specs.declared.refusal.CollectRefusal.TheVariants.{Length, NothingWaits, Fault}

@@ -4,7 +4,7 @@ use Rattle.coding_theory.specs.Galois.{bytes}
 use Rattle.coding_theory.specs.Words.{differ}
 use Rattle.delay_line.specs.Cells.{always, twelfths}
 use Rattle.delay_line.specs.Line.{series}
-use Rattle.delay_line.specs.declared.interleaver.Direction.TheVariants.{Sending, Receiving}
+use Rattle.delay_line.specs.declared.direction.Direction.TheVariants.{Sending, Receiving}
 use Rattle.framing.specs.Laws.{MaskBegins, MaskEnds}
 use Rattle.framing.specs.Mending.{mended}
 use Rattle.framing.specs.Words.{coded}

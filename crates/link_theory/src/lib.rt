@@ -2,7 +2,9 @@
 #![tactic(auto)]
 
 mod laws;
+mod outcome;
 mod refusal;
 
 pub use laws::{delivery, symbols_of_packets, worked_facts};
+pub use outcome::Outcome;
 pub use refusal::{CollectRefusal, DrawRefusal, LinkFault, LoadRefusal, TakeRefusal};

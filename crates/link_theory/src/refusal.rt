@@ -5,50 +5,55 @@ ghost use Rattle.link_theory.specs.declared.refusal.LinkFault.TheVariants.{Word}
 ghost use Rattle.std.specs.Prelude.{◌≡◌};
 
 use framing::WordRefusal;
+use thiserror::Error;
 
-// In the order in which they are tried.
-#[derive(Clone, Copy)]
+// Why a packet was not loaded, in the order in which the causes are tried. The discriminants are the refusals' numbers.
+#[derive(Clone, Copy, Debug, PartialEq, Eq, Error)]
 pub enum LoadRefusal {
-    // the packet is not 188 bytes
-    Length,
-    // it does not begin with 47h
-    Sync,
-    // a symbol can still be drawn
-    Undrawn,
+    #[error("it is not 188 bytes")]
+    Length = 3,
+    #[error("it does not begin with 47h")]
+    Sync = 4,
+    #[error("symbols are still to be drawn")]
+    Undrawn = 5,
 }
 
-#[derive(Clone, Copy)]
+// Why no symbol was drawn.
+#[derive(Clone, Copy, Debug, PartialEq, Eq, Error)]
 pub enum DrawRefusal {
-    // fewer bits are left than a symbol has
-    Exhausted,
+    #[error("fewer bits are left than a symbol has")]
+    Exhausted = 6,
 }
 
-// In the order in which they are tried.
-#[derive(Clone, Copy)]
+// Why a symbol was not taken, in the order in which the causes are tried.
+#[derive(Clone, Copy, Debug, PartialEq, Eq, Error)]
 pub enum TakeRefusal {
     // the number is 2^m or more, where a symbol has m bits
-    NotASymbol,
-    // an outcome waits to be collected
-    Waiting,
+    #[error("it is no symbol of this mapping")]
+    NotASymbol = 7,
+    #[error("an outcome waits to be collected")]
+    Waiting = 8,
 }
 
 // Why a word gave no packet.
-#[derive(Clone, Copy)]
+#[derive(Clone, Copy, Debug, PartialEq, Eq, Error)]
 pub enum LinkFault {
     // the word reader's fault
+    #[error(transparent)]
     Word(WordRefusal),
-    // its position in a group of eight is not known
+    #[error("the position of the word in its group of eight is not known")]
     Group,
 }
 
-// In the order in which they are tried.
-#[derive(Clone, Copy)]
+// Why no packet was collected, in the order in which the causes are tried.
+#[derive(Clone, Copy, Debug, PartialEq, Eq, Error)]
 pub enum CollectRefusal {
-    // the buffer is not 188 bytes
+    #[error("the buffer is not 188 bytes")]
     Length,
-    // no outcome waits
+    #[error("no outcome waits to be collected")]
     NothingWaits,
     // the outcome is a fault of the word with this frame number
+    #[error("word {frame}: {fault}")]
     Fault { frame: u32, fault: LinkFault },
 }
 
@@ -64,11 +69,7 @@ impl LoadRefusal {
     pub fn number(&self) -> u32
         ensures { result ≡ load_number self.now }
     {
-        match self {
-            LoadRefusal::Length => 3,
-            LoadRefusal::Sync => 4,
-            LoadRefusal::Undrawn => 5,
-        }
+        *self as u32
     }
 }
 
@@ -76,9 +77,7 @@ impl DrawRefusal {
     pub fn number(&self) -> u32
         ensures { result ≡ draw_number self.now }
     {
-        match self {
-            DrawRefusal::Exhausted => 6,
-        }
+        *self as u32
     }
 }
 
@@ -86,10 +85,7 @@ impl TakeRefusal {
     pub fn number(&self) -> u32
         ensures { result ≡ take_number self.now }
     {
-        match self {
-            TakeRefusal::NotASymbol => 7,
-            TakeRefusal::Waiting => 8,
-        }
+        *self as u32
     }
 }
 
@@ -115,6 +111,7 @@ impl LinkFault {
     }
 }
 
+// A refusal is told as three numbers, and what a refused call has none of is 0: a rule of the project.
 impl CollectRefusal {
     pub fn number(&self) -> u32
         ensures { result ≡ collect_number self.now }
@@ -131,8 +128,7 @@ impl CollectRefusal {
         ensures { result ≡ collect_frame self.now }
     {
         match self {
-            CollectRefusal::Length => 0,
-            CollectRefusal::NothingWaits => 0,
+            CollectRefusal::Length | CollectRefusal::NothingWaits => 0,
             CollectRefusal::Fault { frame, fault: _ } => *frame,
         }
     }
@@ -142,8 +138,7 @@ impl CollectRefusal {
         ensures { result ≡ collect_layer self.now }
     {
         match self {
-            CollectRefusal::Length => 0,
-            CollectRefusal::NothingWaits => 0,
+            CollectRefusal::Length | CollectRefusal::NothingWaits => 0,
             CollectRefusal::Fault { frame: _, fault } => fault.layer(),
         }
     }

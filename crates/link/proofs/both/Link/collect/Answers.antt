@@ -7,12 +7,11 @@ use Rattle.link.proofs.both.Link.collect.Goals as goal
 pub returns : goal.returns
 returns g c =
     let l = c.args.self.now in
-    let P = plan_of g.A.DelayLine.delay g.B.DelayLine.delay g.B.DelayLine.frames l in
+    let P = plan_of l in
     let known = l.sender.writer.mapping.known in
     record {
       done = search rules;
-      plan = search rules;
       delivers = λ m.
           delivered_by P (sound P (g.A.DelayLine.frames l.sender.half.line) known.0 known.1 (g.met.A.DelayLine.delays l.sender.half.line) m)
-          (ends_of g.A.DelayLine.pending g.B.DelayLine.pending l) (collects c.args.buffer.now);
+          (ends_of l) (collects c.args.buffer.now);
     }

@@ -8,10 +8,8 @@ pub returns : goal.returns
 returns g c =
     let h = c.spend.ensures in
     record {
-      answer = h.answer;
+      done = h.done;
       buffer = h.buffer;
-      receiver = h.receiver;
-      settings = h.settings;
       delivery = delivers;
       composition = (cascade_carries, series_delays, series_undoes);
       misalignment = misaligned_unread;

@@ -1,7 +1,7 @@
 // What a word becomes.
-use link_theory::LinkFault;
+use crate::refusal::LinkFault;
 
-#[derive(Clone, Copy)]
+#[derive(Clone, Copy, Debug, PartialEq, Eq)]
 pub enum Outcome {
     // the packet, its frame number and how many bytes of its word were corrected
     Packet {
