@@ -2,9 +2,10 @@
 ghost use Rattle.std.specs.Prelude.{◌≡◌, ◌^◌, ◌<◌, ◌≤◌, ◌≢◌, false};
 ghost use Rattle.loopback.specs.declared.damage.Damage.TheVariants.{Clean};
 
+use std::fmt;
 use symbols::Mapping;
 
-#[derive(Clone, Copy)]
+#[derive(Clone, Copy, Debug, PartialEq, Eq)]
 pub enum Damage {
     Clean,
     // so many symbols of 1,000, on average
@@ -13,8 +14,18 @@ pub enum Damage {
     Bursts,
 }
 
+impl fmt::Display for Damage {
+    fn fmt<W: fmt::Write>(&self, f: &mut fmt::Formatter<W>) -> fmt::Result {
+        match self {
+            Damage::Clean => write!(f, "none"),
+            Damage::Scattered(rate) => write!(f, "{rate:>2} in 1000"),
+            Damage::Bursts => write!(f, "60 in 4000"),
+        }
+    }
+}
+
 // `state` is the random numbers' generator, `place` the number of the next symbol.
-#[derive(Clone, Copy)]
+#[derive(Clone, Copy, Debug, PartialEq, Eq)]
 pub struct Channel {
     mapping: Mapping,
     damage: Damage,
@@ -26,11 +37,7 @@ pub struct Channel {
 fn symbols_of(mapping: Mapping) -> u32
     ensures { (16 ≤ result) × (result ≤ 64) × (result ≡ 2 ^ mapping.bits) }
 {
-    match mapping.bits() {
-        4 => 16,
-        5 => 32,
-        _ => 64,
-    }
+    1 << mapping.bits()
 }
 
 // Another symbol than this one, by a random number.

@@ -7,15 +7,21 @@ mod path;
 mod table;
 mod tally;
 
-use crate::table::{print_heading, print_mapping};
+use crate::table::Table;
 use std::fs;
+use symbols::Mapping;
 
 fn run(rt: &HostRuntime) -> anyhow::Result<()> {
     let stream = fs::read(rt, "stream.ts")?;
-    print_heading(rt)?;
-    print_mapping(rt, 4, &stream)?;
-    print_mapping(rt, 5, &stream)?;
-    print_mapping(rt, 6, &stream)
+    let table = Table {
+        rt,
+        stream: &stream,
+    };
+    table.print_heading()?;
+    for bits in 4..=6 {
+        table.print_mapping(Mapping::try_from(bits)?)?;
+    }
+    Ok(())
 }
 
 fn main(rt: HostRuntime) -> anyhow::Result<()> {

@@ -4,61 +4,21 @@ use crate::tally::Tally;
 use anyhow::anyhow;
 use delay_line::{DelayLine, Scheme};
 use link::Link;
-use link_theory::CollectRefusal;
+use link_theory::{CollectRefusal, LinkFault};
 use symbols::Mapping;
-
-// Bytes of a packet.
-const PACKET: usize = 188;
+use transport::PACKET;
 
 // Null packets that follow the stream: more than any lag used here.
 const AFTER: u32 = 16;
 
+const NULL_HEADER: [u8; 4] = [0x47, 0x1F, 0xFF, 0x10];
+
+// What became of a word: a packet, and how many bytes of the word were corrected, or its fault.
+type Outcome<'a> = Result<(&'a [u8], u8), LinkFault>;
+
 // Whether this is the packet that was loaded with a frame number.
 fn is_loaded(packet: &[u8], stream: &[u8], frame: u32) -> bool {
-    match stream.chunks_exact(PACKET).nth(frame as usize) {
-        Some(loaded) => loaded == packet,
-        None => false,
-    }
-}
-
-// Collects the outcome that waits, while the stream is sent.
-fn collect_one<A: DelayLine, B: DelayLine>(
-    link: &mut Link<A, B>,
-    stream: &[u8],
-    tally: &mut Tally,
-) -> anyhow::Result<()> {
-    let mut packet = [0u8; PACKET];
-    match link.collect(&mut packet) {
-        Ok((frame, count)) => {
-            let same = is_loaded(&packet, stream, frame);
-            tally.add_packet(frame, count, same);
-            Ok(())
-        }
-        Err(CollectRefusal::Fault { frame: _, fault }) => {
-            tally.add_fault(fault);
-            Ok(())
-        }
-        Err(_) => Err(anyhow!("nothing waits to be collected")),
-    }
-}
-
-// Collects the outcome that waits, after the stream.
-fn collect_late<A: DelayLine, B: DelayLine>(
-    link: &mut Link<A, B>,
-    tally: &mut Tally,
-) -> anyhow::Result<()> {
-    let mut packet = [0u8; PACKET];
-    match link.collect(&mut packet) {
-        Ok((frame, _)) => {
-            tally.add_late(frame);
-            Ok(())
-        }
-        Err(CollectRefusal::Fault { frame, fault: _ }) => {
-            tally.add_late(frame);
-            Ok(())
-        }
-        Err(_) => Err(anyhow!("nothing waits to be collected")),
-    }
+    stream.chunks_exact(PACKET).nth(frame as usize) == Some(packet)
 }
 
 // A link, and the channel between its ends.
@@ -69,45 +29,43 @@ struct Path<A: DelayLine, B: DelayLine> {
 }
 
 impl<A: DelayLine, B: DelayLine> Path<A, B> {
-    // Loads a packet, and answers the number of undrawn bits.
-    fn load(&mut self, packet: &[u8]) -> anyhow::Result<u32> {
-        match self.link.load(packet) {
-            Ok(bits) => Ok(bits),
-            Err(_) => Err(anyhow!("a packet was refused")),
-        }
-    }
-
     // Brings the next symbol over, if there is one, and tells whether an outcome waits.
     fn step(&mut self) -> anyhow::Result<Option<bool>> {
         let Ok(symbol) = self.link.draw() else {
             return Ok(None);
         };
-        match self.link.take(self.channel.pass(symbol)) {
-            Ok(waits) => Ok(Some(waits)),
-            Err(_) => Err(anyhow!("a symbol was refused")),
-        }
+        self.link
+            .take(self.channel.pass(symbol))
+            .map(Some)
+            .map_err(|_| anyhow!("a symbol was refused"))
     }
 
-    // Sends a packet of the stream.
-    fn send(&mut self, packet: &[u8], stream: &[u8], tally: &mut Tally) -> anyhow::Result<()> {
-        let bits = self.load(packet)?;
-        tally.loaded = tally.loaded.saturating_add(1);
-        for _ in 0..bits {
-            match self.step()? {
-                Some(true) => collect_one(&mut self.link, stream, tally)?,
-                Some(false) => {}
-                None => break,
+    // Hands the outcome that waits to `note`, with the frame number of its word.
+    fn collect<F: FnMut(u32, Outcome<'_>)>(&mut self, note: &mut F) -> anyhow::Result<()>
+        requires { (state : F) (frame : _) (outcome : _) → F.pre state frame outcome }
+    {
+        let mut packet = [0u8; PACKET];
+        match self.link.collect(&mut packet) {
+            Ok((frame, count)) => note(frame, Ok((&packet, count))),
+            Err(CollectRefusal::Fault { frame, fault }) => note(frame, Err(fault)),
+            Err(CollectRefusal::Length | CollectRefusal::NothingWaits) => {
+                return Err(anyhow!("nothing waits to be collected"));
             }
         }
         Ok(())
     }
 
-    // Sends a packet after the stream, so that what is under way arrives.
-    fn push(&mut self, packet: &[u8], tally: &mut Tally) -> anyhow::Result<()> {
-        let bits = self.load(packet)?;
+    // Sends a packet, and hands each outcome that comes meanwhile to `note`.
+    fn send<F: FnMut(u32, Outcome<'_>)>(&mut self, packet: &[u8], mut note: F) -> anyhow::Result<()>
+        requires { (state : F) (frame : _) (outcome : _) → F.pre state frame outcome }
+    {
+        let bits = self
+            .link
+            .load(packet)
+            .map_err(|_| anyhow!("a packet was refused"))?;
         for _ in 0..bits {
             match self.step()? {
-                Some(true) => collect_late(&mut self.link, tally)?,
+                Some(true) => self.collect(&mut note)?,
                 Some(false) => {}
                 None => break,
             }
@@ -117,19 +75,23 @@ impl<A: DelayLine, B: DelayLine> Path<A, B> {
 
     fn send_all(&mut self, stream: &[u8], tally: &mut Tally) -> anyhow::Result<()> {
         for packet in stream.chunks_exact(PACKET) {
-            self.send(packet, stream, tally)?;
+            tally.loaded += 1;
+            self.send(packet, |frame, outcome| match outcome {
+                Ok((packet, count)) => {
+                    tally.add_packet(frame, count, is_loaded(packet, stream, frame))
+                }
+                Err(fault) => tally.outcomes.add_fault(fault),
+            })?;
         }
         Ok(())
     }
 
+    // Sends null packets after the stream, so that what is under way arrives.
     fn push_all(&mut self, tally: &mut Tally) -> anyhow::Result<()> {
         let mut null = [0u8; PACKET];
-        null[0] = 0x47;
-        null[1] = 0x1F;
-        null[2] = 0xFF;
-        null[3] = 0x10;
+        null[..4].copy_from_slice(&NULL_HEADER);
         for _ in 0..AFTER {
-            self.push(&null, tally)?;
+            self.send(&null, |frame, _| tally.add_late(frame))?;
         }
         Ok(())
     }

@@ -10,108 +10,83 @@ use delay_line::{DelayLine, Interleaving, Scheme};
 use link::Receiver;
 use link_theory::{CollectRefusal, TakeRefusal};
 use std::env;
-use std::io::{Read, Write};
-use symbols::Mapping;
+use std::io::{BufWriter, Read, Stdout, Write};
+use transport::{PACKET, mapping_asked};
 
-// Bytes of a packet.
-const PACKET: usize = 188;
-
-// Packets are written in parts of about this many bytes.
+// Packets are written in parts of this many bytes.
 const PART: usize = 65536;
 
-fn reason(refusal: TakeRefusal) -> &'static str {
-    match refusal {
-        TakeRefusal::NotASymbol => "it is no symbol of this mapping",
-        TakeRefusal::Waiting => "an outcome waits to be collected",
-    }
+// A run over one stream: the receiver, where its packets go, and the account so far.
+#[derive(Drop)]
+struct Reception<'a, D: DelayLine> {
+    rt: &'a HostRuntime,
+    receiver: Receiver<D>,
+    out: BufWriter<Stdout>,
+    account: Account,
 }
 
-// Collects the outcome that waits: a packet goes to the end of `out`, a fault is counted.
-fn collect_one<D: DelayLine>(
-    receiver: &mut Receiver<D>,
-    out: &mut Vec<u8>,
-    account: &mut Account,
-) -> anyhow::Result<()> {
-    let mut packet = [0u8; PACKET];
-    match receiver.collect(&mut packet) {
-        Ok((frame, count)) => {
-            account.add_packet(frame, count);
-            out.extend_from_slice(&packet)?;
+impl<D: DelayLine> Reception<'_, D> {
+    // Collects the outcome that waits: a packet is written, a fault is counted.
+    fn collect(&mut self) -> anyhow::Result<()> {
+        let mut packet = [0u8; PACKET];
+        match self.receiver.collect(&mut packet) {
+            Ok((frame, count)) => {
+                self.account.outcomes.add_packet(frame, count);
+                self.out.write_all(&packet)?;
+            }
+            Err(CollectRefusal::Fault { frame: _, fault }) => {
+                self.account.outcomes.add_fault(fault)
+            }
+            Err(CollectRefusal::Length | CollectRefusal::NothingWaits) => {}
         }
-        Err(CollectRefusal::Fault { frame: _, fault }) => account.add_fault(fault),
-        Err(_) => {}
+        Ok(())
     }
-    Ok(())
-}
 
-// Counts a refusal; the first is told, with the place of its byte from 1.
-fn refuse(rt: &HostRuntime, refusal: TakeRefusal, account: &mut Account) -> anyhow::Result<()> {
-    account.refused = account.refused.saturating_add(1);
-    if account.refused == 1 {
-        eprintln!(rt;
-            "symbol {}: refused {}: {}",
-            account.symbols,
-            refusal.number(),
-            reason(refusal)
-        )?;
-    }
-    Ok(())
-}
-
-fn receive_symbol<D: DelayLine>(
-    rt: &HostRuntime,
-    receiver: &mut Receiver<D>,
-    symbol: u8,
-    out: &mut Vec<u8>,
-    account: &mut Account,
-) -> anyhow::Result<()> {
-    account.symbols = account.symbols.saturating_add(1);
-    match receiver.take(symbol) {
-        Ok(true) => collect_one(receiver, out, account),
-        Ok(false) => Ok(()),
-        Err(refusal) => refuse(rt, refusal, account),
-    }
-}
-
-fn receive_all<D: DelayLine>(
-    rt: &HostRuntime,
-    receiver: &mut Receiver<D>,
-    symbols: &[u8],
-) -> anyhow::Result<Account> {
-    let mut account = Account::new();
-    let mut out = Vec::new(rt.alloc());
-    for symbol in symbols {
-        receive_symbol(rt, receiver, *symbol, &mut out, &mut account)?;
-        if out.len() >= PART {
-            rt.stdout().write_all(&out)?;
-            out.clear();
+    // Counts a refusal; the first is told, with the place of its byte from 1.
+    fn refuse(&mut self, refusal: TakeRefusal) -> anyhow::Result<()> {
+        self.account.refused += 1;
+        if self.account.refused.0 == 1 {
+            eprintln!(self.rt;
+                "symbol {}: refused {}: {refusal}",
+                self.account.symbols,
+                refusal.number()
+            )?;
         }
+        Ok(())
     }
-    rt.stdout().write_all(&out)?;
-    Ok(account)
-}
 
-// The number of bits to a symbol: the first argument, or 6.
-fn mapping_asked(rt: &HostRuntime) -> anyhow::Result<Mapping> {
-    let mut args = env::args(rt)?;
-    let _program = args.next();
-    let bits = match args.next() {
-        None => 6,
-        Some(word) => word.parse::<u32>().unwrap_or(0),
-    };
-    match Mapping::new(bits) {
-        Ok(mapping) => Ok(mapping),
-        Err(_) => Err(anyhow!("refused 1: the number of bits to a symbol is 4, 5 or 6")),
+    fn take_all(&mut self, symbols: &[u8]) -> anyhow::Result<()> {
+        for symbol in symbols {
+            self.account.symbols += 1;
+            match self.receiver.take(*symbol) {
+                Ok(true) => self.collect()?,
+                Ok(false) => {}
+                Err(refusal) => self.refuse(refusal)?,
+            }
+        }
+        self.out.flush()?;
+        Ok(())
     }
 }
 
+// The first steps are those of `send` too: a function for both would hand out a pair of what two lines read plainly here.
 fn run(rt: &HostRuntime) -> anyhow::Result<()> {
-    let mapping = mapping_asked(rt)?;
+    let argument = env::args(rt)?.nth(1);
+    let mapping = mapping_asked(argument.as_deref()).map_err(|refusal| anyhow!(
+        "refused {}: {refusal}",
+        refusal.number()
+    ))?;
     let mut symbols = Vec::new(rt.alloc());
     rt.stdin().read_to_end(&mut symbols)?;
-    let mut receiver = Receiver::new(mapping, Interleaving.receiving());
-    let account = receive_all(rt, &mut receiver, &symbols)?;
-    account.print(rt)
+    let mut reception = Reception {
+        rt,
+        receiver: Receiver::new(mapping, Interleaving.receiving()),
+        out: BufWriter::with_capacity(rt.alloc(), PART, rt.stdout())?,
+        account: Account::new(),
+    };
+    reception.take_all(&symbols)?;
+    eprintln!(rt; "{}", reception.account)?;
+    Ok(())
 }
 
 fn main(rt: HostRuntime) -> anyhow::Result<()> {

@@ -5,122 +5,92 @@
 use anyhow::anyhow;
 use delay_line::{DelayLine, Interleaving, Scheme};
 use link::Sender;
-use link_theory::LoadRefusal;
-use std::env;
-use std::io::{Read, Write};
-use symbols::Mapping;
+use std::io::{BufWriter, Read, Stdout, Write};
+use std::num::Saturating;
+use std::{env, fmt};
+use transport::{PACKET, mapping_asked};
 
-// Bytes of a packet.
-const PACKET: usize = 188;
-
-// Symbols are written in parts of about this many.
+// Symbols are written in parts of this many.
 const PART: usize = 65536;
 
-#[derive(Clone, Copy)]
+#[derive(Clone, Copy, Debug, PartialEq, Eq, Default)]
 struct Account {
-    packets: u64,
-    refused: u64,
-    symbols: u64,
+    packets: Saturating<u64>,
+    refused: Saturating<u64>,
+    symbols: Saturating<u64>,
 }
 
-fn reason(refusal: LoadRefusal) -> &'static str {
-    match refusal {
-        LoadRefusal::Length => "it is not 188 bytes",
-        LoadRefusal::Sync => "it does not begin with 47h",
-        LoadRefusal::Undrawn => "symbols are still to be drawn",
+impl fmt::Display for Account {
+    fn fmt<W: fmt::Write>(&self, f: &mut fmt::Formatter<W>) -> fmt::Result {
+        writeln!(f, "packets {}", self.packets)?;
+        writeln!(f, "refused {}", self.refused)?;
+        write!(f, "symbols {}", self.symbols)
     }
 }
 
-// Draws at most `bits` symbols.
-fn draw_all<D: DelayLine>(
-    sender: &mut Sender<D>,
-    bits: u32,
-    out: &mut Vec<u8>,
-) -> anyhow::Result<u64> {
-    let mut count = 0u64;
-    for _ in 0..bits {
-        match sender.draw() {
-            Ok(symbol) => {
-                out.push(symbol)?;
-                count = count.saturating_add(1);
+// A run over one stream: the sender, where its symbols go, and the account so far.
+#[derive(Drop)]
+struct Transmission<'a, D: DelayLine> {
+    rt: &'a HostRuntime,
+    sender: Sender<D>,
+    out: BufWriter<Stdout>,
+    account: Account,
+}
+
+impl<D: DelayLine> Transmission<'_, D> {
+    // Draws and writes the symbols of at most so many bits.
+    fn draw(&mut self, bits: u32) -> anyhow::Result<()> {
+        let sender = &mut self.sender;
+        let symbols: Vec<u8> = (0..bits)
+            .map_while(|_| sender.draw().ok())
+            .collect(self.rt.alloc())?;
+        self.account.symbols += symbols.len() as u64;
+        self.out.write_all(&symbols)?;
+        Ok(())
+    }
+
+    fn send(&mut self, packet: &[u8]) -> anyhow::Result<()> {
+        self.account.packets += 1;
+        match self.sender.load(packet) {
+            Ok(bits) => self.draw(bits)?,
+            Err(refusal) => {
+                self.account.refused += 1;
+                eprintln!(self.rt;
+                    "packet {}: refused {}: {refusal}",
+                    self.account.packets,
+                    refusal.number()
+                )?;
             }
-            Err(_) => break,
         }
+        Ok(())
     }
-    Ok(count)
-}
 
-fn send_packet<D: DelayLine>(
-    rt: &HostRuntime,
-    sender: &mut Sender<D>,
-    packet: &[u8],
-    out: &mut Vec<u8>,
-    account: &mut Account,
-) -> anyhow::Result<()> {
-    account.packets = account.packets.saturating_add(1);
-    match sender.load(packet) {
-        Ok(bits) => {
-            let drawn = draw_all(sender, bits, out)?;
-            account.symbols = account.symbols.saturating_add(drawn);
+    fn send_all(&mut self, stream: &[u8]) -> anyhow::Result<()> {
+        for packet in stream.chunks_exact(PACKET) {
+            self.send(packet)?;
         }
-        Err(refusal) => {
-            account.refused = account.refused.saturating_add(1);
-            eprintln!(rt;
-                "packet {}: refused {}: {}",
-                account.packets,
-                refusal.number(),
-                reason(refusal)
-            )?;
-        }
-    }
-    Ok(())
-}
-
-fn send_all<D: DelayLine>(
-    rt: &HostRuntime,
-    sender: &mut Sender<D>,
-    stream: &[u8],
-) -> anyhow::Result<Account> {
-    let mut account = Account {
-        packets: 0,
-        refused: 0,
-        symbols: 0,
-    };
-    let mut out = Vec::new(rt.alloc());
-    for packet in stream.chunks_exact(PACKET) {
-        send_packet(rt, sender, packet, &mut out, &mut account)?;
-        if out.len() >= PART {
-            rt.stdout().write_all(&out)?;
-            out.clear();
-        }
-    }
-    rt.stdout().write_all(&out)?;
-    Ok(account)
-}
-
-// The number of bits to a symbol: the first argument, or 6.
-fn mapping_asked(rt: &HostRuntime) -> anyhow::Result<Mapping> {
-    let mut args = env::args(rt)?;
-    let _program = args.next();
-    let bits = match args.next() {
-        None => 6,
-        Some(word) => word.parse::<u32>().unwrap_or(0),
-    };
-    match Mapping::new(bits) {
-        Ok(mapping) => Ok(mapping),
-        Err(_) => Err(anyhow!("refused 1: the number of bits to a symbol is 4, 5 or 6")),
+        self.out.flush()?;
+        Ok(())
     }
 }
 
+// The first steps are those of `receive` too: a function for both would hand out a pair of what two lines read plainly here.
 fn run(rt: &HostRuntime) -> anyhow::Result<()> {
-    let mapping = mapping_asked(rt)?;
+    let argument = env::args(rt)?.nth(1);
+    let mapping = mapping_asked(argument.as_deref()).map_err(|refusal| anyhow!(
+        "refused {}: {refusal}",
+        refusal.number()
+    ))?;
     let mut stream = Vec::new(rt.alloc());
     rt.stdin().read_to_end(&mut stream)?;
-    let mut sender = Sender::new(mapping, Interleaving.sending());
-    let account = send_all(rt, &mut sender, &stream)?;
-    eprintln!(rt; "packets {}", account.packets)?;
-    eprintln!(rt; "refused {}", account.refused)?;
-    eprintln!(rt; "symbols {}", account.symbols)?;
+    let mut transmission = Transmission {
+        rt,
+        sender: Sender::new(mapping, Interleaving.sending()),
+        out: BufWriter::with_capacity(rt.alloc(), PART, rt.stdout())?,
+        account: Account::default(),
+    };
+    transmission.send_all(&stream)?;
+    eprintln!(rt; "{}", transmission.account)?;
     let left = stream.len() % PACKET;
     if left > 0 {
         eprintln!(rt; "{left} bytes at the end are no whole packet and were not sent")?;

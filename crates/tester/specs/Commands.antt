@@ -1,5 +1,6 @@
 -- The lines that the tester writes: a verb, a space and hex digits.
-use Rattle.std.specs.Prelude.{◌≡◌, ℕ, suc, ◌+◌, ◌%◌, ◌<◌, true, false, cond, List, [], ◌∷◌, length, take, drop, codes, ◌==◌, ◌≢◌, slice_index}
+use Rattle.std.specs.Prelude.{◌≡◌, ◌≢◌, ℕ, ◌+◌, ◌%◌, ◌<◌, Bool, true, false, List, [], length, codes, ◌==◌, slice_index}
+use Rattle.std.specs.List.{position_or_len, before_first, after_first}
 use Rattle.tester.specs.Hex.{is_digit}
 use Rattle.tester.specs.declared.command.Verb.{Verb}
 use Rattle.tester.specs.declared.command.Verb.TheVariants.{Code, Check, Correct}
@@ -12,17 +13,19 @@ name_of Code = codes "code"
 name_of Check = codes "check"
 name_of Correct = codes "correct"
 
+abbrev pub is_space : ℕ → Bool
+is_space c = c == 32
+
 -- where the first space stands, or the length
 abbrev pub space_at : List ℕ → ℕ
-space_at [] = 0
-space_at (c ∷ line) = cond (c == 32) 0 (suc (space_at line))
+space_at line = position_or_len is_space line
 
 -- the line up to its first space, and what is behind that
 abbrev pub name_in : List ℕ → List ℕ
-name_in line = take (space_at line) line
+name_in line = before_first is_space line
 
 abbrev pub digits_in : List ℕ → List ℕ
-digits_in line = drop (suc (space_at line)) line
+digits_in line = after_first is_space line
 
 -- each character of the text below n is a digit
 abbrev pub Digits : ℕ → List ℕ → Type 0

@@ -1,36 +1,29 @@
-// The account: how many lines of each kind there were.
+// The account: how many lines of each kind there were. Each number stops at the largest that fits.
 ghost use Rattle.tester.specs.Accounts.{empty, lines_of, noted};
 ghost use Rattle.std.specs.Prelude.{◌≡◌};
 
 use crate::reply::Kind;
+use std::fmt;
+use std::num::Saturating;
 
-#[derive(Clone, Copy)]
+#[derive(Clone, Copy, Debug, PartialEq, Eq, Default)]
 pub struct Account {
-    pub coded: u64,
-    pub right: u64,
-    pub wrong: u64,
-    pub refused: u64,
-    pub unreadable: u64,
-    pub corrected_words: u64,
-    pub corrected_bytes: u64,
+    pub coded: Saturating<u64>,
+    pub right: Saturating<u64>,
+    pub wrong: Saturating<u64>,
+    pub refused: Saturating<u64>,
+    pub unreadable: Saturating<u64>,
+    pub corrected_words: Saturating<u64>,
+    pub corrected_bytes: Saturating<u64>,
     // those of `refused` that no code word was near
-    pub refused_words: u64,
+    pub refused_words: Saturating<u64>,
 }
 
 impl Account {
     pub fn new() -> Account
         ensures { result ≡ empty }
     {
-        Account {
-            coded: 0,
-            right: 0,
-            wrong: 0,
-            refused: 0,
-            unreadable: 0,
-            corrected_words: 0,
-            corrected_bytes: 0,
-            refused_words: 0,
-        }
+        Account::default()
     }
 
     // One line more.
@@ -38,19 +31,19 @@ impl Account {
         ensures { self.new ≡ noted kind self.old }
     {
         match kind {
-            Kind::Coded => self.coded = self.coded.saturating_add(1),
-            Kind::Right => self.right = self.right.saturating_add(1),
-            Kind::Wrong => self.wrong = self.wrong.saturating_add(1),
+            Kind::Coded => self.coded += 1,
+            Kind::Right => self.right += 1,
+            Kind::Wrong => self.wrong += 1,
             Kind::Corrected(count) => {
-                self.corrected_words = self.corrected_words.saturating_add(1);
-                self.corrected_bytes = self.corrected_bytes.saturating_add(count as u64);
+                self.corrected_words += 1;
+                self.corrected_bytes += u64::from(count);
             }
-            Kind::Refused => self.refused = self.refused.saturating_add(1),
+            Kind::Refused => self.refused += 1,
             Kind::Lost => {
-                self.refused = self.refused.saturating_add(1);
-                self.refused_words = self.refused_words.saturating_add(1);
+                self.refused += 1;
+                self.refused_words += 1;
             }
-            Kind::Unreadable => self.unreadable = self.unreadable.saturating_add(1),
+            Kind::Unreadable => self.unreadable += 1,
         }
     }
 
@@ -58,11 +51,25 @@ impl Account {
     pub fn lines(&self) -> u128
         ensures { result ≡ lines_of self.now }
     {
-        self.coded as u128
-            + self.right as u128
-            + self.wrong as u128
-            + self.refused as u128
-            + self.unreadable as u128
-            + self.corrected_words as u128
+        self.coded.0 as u128
+            + self.right.0 as u128
+            + self.wrong.0 as u128
+            + self.refused.0 as u128
+            + self.unreadable.0 as u128
+            + self.corrected_words.0 as u128
+    }
+}
+
+impl fmt::Display for Account {
+    fn fmt<W: fmt::Write>(&self, f: &mut fmt::Formatter<W>) -> fmt::Result {
+        writeln!(f, "lines {}", self.lines())?;
+        writeln!(f, "coded {}", self.coded)?;
+        writeln!(f, "right {}", self.right)?;
+        writeln!(f, "wrong {}", self.wrong)?;
+        writeln!(f, "refused {}", self.refused)?;
+        writeln!(f, "unreadable {}", self.unreadable)?;
+        writeln!(f, "corrected_words {}", self.corrected_words)?;
+        writeln!(f, "corrected_bytes {}", self.corrected_bytes)?;
+        write!(f, "refused_words {}", self.refused_words)
     }
 }

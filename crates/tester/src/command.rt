@@ -1,11 +1,14 @@
 // One line: a verb, a space and hex digits.
-ghost use Rattle.std.specs.Prelude.{◌≡◌, suc, ◌≤◌, length, drop, Some, None, Ok, Err, Decides, ◌≢◌};
-ghost use Rattle.tester.specs.Commands.{Flawed, Reads, name_of, space_at};
+ghost use Rattle.std.specs.Prelude.{◌≡◌, ◌≢◌, length, position, Ok, Err, MatchResult};
+ghost use Rattle.tester.specs.Commands.{Flawed, Reads, digits_in, is_space, name_in, name_of, space_at};
+ghost use Rattle.tester.specs.declared.command.Flaw.TheVariants.{UnknownVerb};
+ghost use Rattle.tester.specs.declared.command.Verb.{Verb};
 
-use crate::hex::first_bad_digit;
+use crate::digits::first_bad_digit;
+use thiserror::Error;
 
 // What is asked for.
-#[derive(Clone, Copy)]
+#[derive(Clone, Copy, Debug, PartialEq, Eq)]
 pub enum Verb {
     // code a packet as it is
     Code,
@@ -16,63 +19,56 @@ pub enum Verb {
 }
 
 // Why a line is no command.
-#[derive(Clone, Copy)]
+#[derive(Clone, Copy, Debug, PartialEq, Eq, Error)]
 pub enum Flaw {
+    #[error("empty line")]
     Empty,
+    #[error("unknown verb")]
     UnknownVerb,
     // the column, from 1, of the first character that should be a digit and is none
+    #[error("not a hex digit at column {0}")]
     NotADigit(usize),
+    #[error("odd number of digits")]
     OddDigits,
 }
 
 // A verb and the digits behind it.
-#[derive(Clone, Copy)]
+#[derive(Clone, Copy, Debug, PartialEq, Eq)]
 pub struct Command<'a> {
     pub verb: Verb,
     pub digits: &'a [u8],
 }
 
-// Where the first space stands, or how long the line is.
-fn space_in(line: &[u8]) -> usize
-    ensures place { result ≡ space_at line.now }
-    ensures within { result ≤ length line.now }
-{
-    for (k, c) in line.iter().enumerate() {
-        if *c == b' ' {
-            return k;
+impl<'a> TryFrom<&'a [u8]> for Verb {
+    type Error = Flaw;
+
+    ghost try_from_gives = { λ name verb. MatchResult verb (λ v. name.now ≡ name_of v) (λ flaw. (flaw ≡ UnknownVerb) × ((v : Verb) → name.now ≢ name_of v)) };
+
+    fn try_from(name: &'a [u8]) -> Result<Verb, Flaw> {
+        match name {
+            b"code" => Ok(Verb::Code),
+            b"check" => Ok(Verb::Check),
+            b"correct" => Ok(Verb::Correct),
+            _ => Err(Flaw::UnknownVerb),
         }
     }
-    line.len()
 }
 
-fn same(a: &[u8], b: &[u8]) -> bool
-    ensures { Decides result (a.now ≡ b.now) }
+fn first_space(line: &[u8]) -> Option<usize>
+    ensures { result ≡ position is_space line.now }
 {
-    a == b
+    line.iter().position(|c| *c == b' ')
 }
 
-fn verb_named(name: &[u8]) -> Option<Verb>
-    ensures { elim result [ None ↦ ((v : Verb) → name.now ≢ name_of v) | Some v ↦ name.now ≡ name_of v ] }
+// What stands before the first space, and what stands behind it.
+fn parts(line: &[u8]) -> (&[u8], &[u8])
+    ensures name { result.0.now ≡ name_in line.now }
+    ensures digits { result.1.now ≡ digits_in line.now }
+    ensures space { length result.0.now ≡ space_at line.now }
 {
-    if same(name, b"code") {
-        Some(Verb::Code)
-    } else if same(name, b"check") {
-        Some(Verb::Check)
-    } else if same(name, b"correct") {
-        Some(Verb::Correct)
-    } else {
-        None
-    }
-}
-
-// What stands behind the name of the verb and a space.
-fn behind(line: &[u8], space: usize) -> &[u8]
-    ensures { result.now ≡ drop (suc space) line.now }
-{
-    if space < line.len() {
-        &line[space + 1..]
-    } else {
-        &line[line.len()..]
+    match first_space(line) {
+        Some(space) => (&line[..space], &line[space + 1..]),
+        None => (line, &[]),
     }
 }
 
@@ -83,13 +79,10 @@ pub fn read_command(line: &[u8]) -> Result<Command<'_>, Flaw>
     if line.is_empty() {
         return Err(Flaw::Empty);
     }
-    let space = space_in(line);
-    let Some(verb) = verb_named(&line[0..space]) else {
-        return Err(Flaw::UnknownVerb);
-    };
-    let digits = behind(line, space);
+    let (name, digits) = parts(line);
+    let verb = Verb::try_from(name)?;
     if let Some(k) = first_bad_digit(digits) {
-        return Err(Flaw::NotADigit(space + 2 + k));
+        return Err(Flaw::NotADigit(name.len() + 2 + k));
     }
     if digits.len() % 2 != 0 {
         return Err(Flaw::OddDigits);

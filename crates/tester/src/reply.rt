@@ -1,12 +1,14 @@
 // What is answered to a command.
-ghost use Rattle.tester.specs.Replies.{Answers, kind_of};
+ghost use Rattle.tester.specs.Replies.{Answers, kind_of, lifted, number_of};
 ghost use Rattle.std.specs.Prelude.{◌≡◌};
 
 use crate::command::{Command, Verb};
-use crate::hex::decode;
-use reed_solomon::{BYTE_CODE, Table256, correct_bytes, encode_bytes, is_code_word};
+use crate::digits::decode;
+use reed_solomon::{BYTE_CODE, CodeRefusal, Table256, correct_bytes, encode_bytes, is_code_word};
+use std::fmt;
+use thiserror::Error;
 
-#[derive(Clone, Copy)]
+#[derive(Clone, Copy, Debug, PartialEq, Eq)]
 pub enum Reply {
     // the word of the packet
     Word([u8; 204]),
@@ -15,12 +17,21 @@ pub enum Reply {
     Wrong,
     // the code word, and how many bytes differed
     Corrected(u8, [u8; 204]),
-    // the number of the refusal
-    Refused(u32),
+}
+
+// Why a command is refused. The discriminants are the refusals' numbers.
+#[derive(Clone, Copy, Debug, PartialEq, Eq, Error)]
+pub enum Refusal {
+    #[error("a packet has 188 bytes")]
+    PacketLength = 3,
+    #[error("no code word is within eight bytes")]
+    NoCodeWord = 11,
+    #[error("a word has 204 bytes")]
+    WordLength = 14,
 }
 
 // What the account counts.
-#[derive(Clone, Copy)]
+#[derive(Clone, Copy, Debug, PartialEq, Eq)]
 pub enum Kind {
     Coded,
     Right,
@@ -34,70 +45,97 @@ pub enum Kind {
     Unreadable,
 }
 
-fn code(digits: &[u8]) -> Reply
+// Bytes as lower-case hex digits.
+#[derive(Clone, Copy, Debug, PartialEq, Eq)]
+struct Hex<'a>(&'a [u8]);
+
+impl fmt::Display for Hex<'_> {
+    fn fmt<W: fmt::Write>(&self, f: &mut fmt::Formatter<W>) -> fmt::Result {
+        for b in self.0 {
+            write!(f, "{b:02x}")?;
+        }
+        Ok(())
+    }
+}
+
+impl fmt::Display for Reply {
+    fn fmt<W: fmt::Write>(&self, f: &mut fmt::Formatter<W>) -> fmt::Result {
+        match self {
+            Reply::Word(word) => write!(f, "word {}", Hex(word)),
+            Reply::Right => write!(f, "right"),
+            Reply::Wrong => write!(f, "wrong"),
+            Reply::Corrected(count, word) => write!(f, "corrected {count} {}", Hex(word)),
+        }
+    }
+}
+
+impl Refusal {
+    pub fn number(&self) -> u32
+        ensures { result ≡ number_of self.now }
+    {
+        *self as u32
+    }
+}
+
+impl From<CodeRefusal> for Refusal {
+    ghost from_gives = { λ x y. y ≡ lifted x };
+
+    fn from(value: CodeRefusal) -> Refusal {
+        match value {
+            CodeRefusal::Length => Refusal::WordLength,
+            CodeRefusal::Fault(_) => Refusal::NoCodeWord,
+        }
+    }
+}
+
+impl From<Result<Reply, Refusal>> for Kind {
+    ghost from_gives = { λ x y. y ≡ kind_of x };
+
+    fn from(value: Result<Reply, Refusal>) -> Kind {
+        match value {
+            Ok(Reply::Word(_)) => Kind::Coded,
+            Ok(Reply::Right) => Kind::Right,
+            Ok(Reply::Wrong) => Kind::Wrong,
+            Ok(Reply::Corrected(count, _)) => Kind::Corrected(count),
+            Err(Refusal::NoCodeWord) => Kind::Lost,
+            Err(Refusal::PacketLength | Refusal::WordLength) => Kind::Refused,
+        }
+    }
+}
+
+fn code(digits: &[u8]) -> Result<Reply, Refusal>
     ensures { Answers Verb.Code digits.now result }
 {
-    let mut packet = [0u8; 188];
-    if !decode(digits, &mut packet) {
-        return Reply::Refused(3);
-    }
-    Reply::Word(encode_bytes(&packet))
+    let packet = decode(digits).ok_or(Refusal::PacketLength)?;
+    Ok(Reply::Word(encode_bytes(&packet)))
 }
 
-fn check(digits: &[u8]) -> Reply
+fn check(digits: &[u8]) -> Result<Reply, Refusal>
     ensures { Answers Verb.Check digits.now result }
 {
-    let mut word = [0u8; 204];
-    if !decode(digits, &mut word) {
-        return Reply::Refused(14);
-    }
+    let word: [u8; 204] = decode(digits).ok_or(Refusal::WordLength)?;
     if is_code_word::<Table256>(BYTE_CODE, &word) {
-        Reply::Right
+        Ok(Reply::Right)
     } else {
-        Reply::Wrong
+        Ok(Reply::Wrong)
     }
 }
 
-fn correct(digits: &[u8]) -> Reply
+fn correct(digits: &[u8]) -> Result<Reply, Refusal>
     ensures { Answers Verb.Correct digits.now result }
 {
-    let mut word = [0u8; 204];
-    if !decode(digits, &mut word) {
-        return Reply::Refused(14);
-    }
-    match correct_bytes(&mut word) {
-        Ok(count) => Reply::Corrected(count, word),
-        Err(refusal) => Reply::Refused(refusal.number()),
-    }
+    let mut word: [u8; 204] = decode(digits).ok_or(Refusal::WordLength)?;
+    let count = correct_bytes(&mut word)?;
+    Ok(Reply::Corrected(count, word))
 }
 
 // The reply to a command.
-pub fn answer(command: Command<'_>) -> Reply
+pub fn answer(command: Command<'_>) -> Result<Reply, Refusal>
     ensures { Answers command.entry.verb command.entry.digits.now result }
 {
     match command.verb {
         Verb::Code => code(command.digits),
         Verb::Check => check(command.digits),
         Verb::Correct => correct(command.digits),
-    }
-}
-
-impl Reply {
-    pub fn kind(&self) -> Kind
-        ensures { result ≡ kind_of self.now }
-    {
-        match self {
-            Reply::Word(_) => Kind::Coded,
-            Reply::Right => Kind::Right,
-            Reply::Wrong => Kind::Wrong,
-            Reply::Corrected(count, _) => Kind::Corrected(*count),
-            Reply::Refused(number) => {
-                if *number == 11 {
-                    Kind::Lost
-                } else {
-                    Kind::Refused
-                }
-            }
-        }
     }
 }
