@@ -2,7 +2,7 @@
 // them.
 #![tactic(auto)]
 
-ghost use Rattle.std.specs.Prelude.{◌≡◌, ℕ};
+ghost use Rattle.std.specs.Prelude.{◌≡◌};
 ghost use Rattle.code_c.specs.Calls.{Corrects, Encodes, mend_number};
 ghost use Rattle.framing.specs.Laws.{MisalignedUnread};
 ghost use Rattle.framing.specs.Mending.{mended};
@@ -16,6 +16,7 @@ use reed_solomon::{CodeRefusal, correct_bytes, encode_bytes};
 pub extern "C" fn bethlyfor_encode(word: &mut [u8]) -> u32
     ensures { Encodes word.old word.new result }
 {
+    // a part of the buffer is copied to be coded, and the whole written: the buffer as an array of 204 would serve neither
     if word.len() != 204 {
         return CodeRefusal::Length.number();
     }

@@ -17,6 +17,7 @@ impl DelayRefusal {
     pub fn number(&self) -> u32
         ensures { result ≡ number_of self.now }
     {
+        // a cast needs the enum's own type, so each enum of refusals casts itself
         *self as u32
     }
 }

@@ -1,5 +1,5 @@
 // Two delay lines in series.
-ghost use Rattle.std.specs.Prelude.{◌≡◌, ℕ, ◌+◌};
+ghost use Rattle.std.specs.Prelude.{◌+◌};
 ghost use Rattle.delay_line.specs.Fresh.{IsFresh};
 ghost use Rattle.delay_line.specs.Line.{series, through_both};
 ghost use Rattle.delay_line.specs.InSeries.{series_delays};

@@ -6,7 +6,7 @@ ghost use Rattle.delay_line.specs.Line.{Delays};
 use crate::line::DelayLine;
 use crate::slot::Slot;
 
-// A delay line, and the slot that comes next.
+// A delay line, and the slot that comes next. It has no `impl Model`: what a half means has functions in it, and a model's value is data.
 #[derive(Drop)]
 pub struct Half<D: DelayLine> {
     slot: Slot,

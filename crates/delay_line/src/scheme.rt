@@ -1,5 +1,5 @@
 // Delay schemes, of which any number of sending and receiving halves are made.
-ghost use Rattle.std.specs.Prelude.{◌≡◌, ℕ, ◌-◌};
+ghost use Rattle.std.specs.Prelude.{ℕ, ◌-◌};
 ghost use Rattle.delay_line.specs.Cells.{always, twelfths};
 ghost use Rattle.delay_line.specs.Fresh.{IsFresh};
 ghost use Rattle.delay_line.specs.Line.{Delays, Undoes, silent};

@@ -1,5 +1,5 @@
 // One delay scheme over another.
-ghost use Rattle.std.specs.Prelude.{◌≡◌, ℕ, ◌+◌};
+ghost use Rattle.std.specs.Prelude.{◌≡◌, ◌+◌};
 ghost use Rattle.delay_line.specs.Line.{series};
 ghost use Rattle.delay_line.specs.InSeries.{series_delays, series_undoes};
 

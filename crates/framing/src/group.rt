@@ -41,7 +41,8 @@ impl Group {
         Group { expected: None }
     }
 
-    // The position of the word that was met, if it has one.
+    // The position of the word that was met, if it has one. Positions are plain numbers: public functions take any, and a type of those below
+    // 8 would ask more of callers, so the bound stands where it is needed.
     pub fn meet(&mut self, event: Event) -> Option<u8>
         ensures position { result ≡ position_of self.old event }
         ensures next { self.new ≡ expected_after self.old event }

@@ -25,7 +25,7 @@ pub enum WordRefusal {
     Fault(WordFault),
 }
 
-// By hand, as the next: the From that a derive writes has no contract, and mend's clause names the refusal that its ? makes.
+// By hand: the From that a derive writes has no contract, and mend's clause names the refusal that its ? makes.
 impl From<CodeFault> for WordFault {
     ghost from_gives = { λ x y. y ≡ Code x };
 

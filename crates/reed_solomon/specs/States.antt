@@ -1,4 +1,4 @@
--- The state of the key equation's algorithm, from the code's variables.
+-- The state of the key equation's algorithm, from the fields of `KeyEquation`.
 use Rattle.std.specs.Prelude.{ℕ, List}
 use Rattle.coding_theory.specs.Decoder.{State}
 

@@ -1,5 +1,5 @@
 // Words of the code: their values at powers of alpha.
-ghost use Rattle.std.specs.Prelude.{◌≡◌, ℕ, suc, ◌+◌, ◌<◌, ◌↔◌, length, Decides, IsTrue, slice_index};
+ghost use Rattle.std.specs.Prelude.{◌≡◌, ℕ, ◌+◌, ◌<◌, ◌↔◌, length, Decides, IsTrue, slice_index};
 ghost use Rattle.coding_theory.specs.Algebra.{plain};
 ghost use Rattle.coding_theory.specs.Code.{CodeWord};
 ghost use Rattle.coding_theory.specs.Words.{horner};

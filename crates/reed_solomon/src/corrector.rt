@@ -1,5 +1,5 @@
 // Correction of up to eight wrong bytes in a word of 204.
-ghost use Rattle.std.specs.Prelude.{◌≡◌, ℕ, ◌<◌, ◌≤◌, ◌↔◌, List, length, Some, None, IsTrue, slice_index};
+ghost use Rattle.std.specs.Prelude.{◌≡◌, ℕ, ◌<◌, ◌↔◌, List, length, Some, None, IsTrue, slice_index};
 ghost use Rattle.coding_theory.specs.Words.{differ};
 ghost use Rattle.reed_solomon.specs.Correction.{Corrected, EarlyBegins, LateRefused, Near};
 ghost use Rattle.reed_solomon.specs.Syndromes.{Evaluated, values};
@@ -86,10 +86,10 @@ pub(crate) fn decide<F: Field, E: Evaluation<F>>(word: &mut [u8]) -> Result<u8, 
     let Some(s) = E::nonzero_syndromes(received) else {
         return Ok(0);
     };
-    match restore::<F, 204, WIDTH>(*received, &s, 0) {
-        Some(fixed) => settle::<F, E>(word, &fixed),
-        None => Err(NO_WORD),
-    }
+    let Some(fixed) = restore::<F, 204, WIDTH>(*received, &s, 0) else {
+        return Err(NO_WORD);
+    };
+    settle::<F, E>(word, &fixed)
 }
 
 // Puts the code word within eight bytes of `word` in its place, and answers how many bytes differed; a word read one to four bytes late

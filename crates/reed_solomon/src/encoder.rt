@@ -40,7 +40,7 @@ struct Division<const N: usize> {
 }
 
 impl<const N: usize> Division<N> {
-    // One symbol into the register.
+    // One symbol into the register. N ≤ 256 since an array that is lent to be written owes a bound, and a const parameter carries none.
     fn feed<F: Field>(&mut self, symbol: u8)
         requires some { 0 < N }
         requires few { N ≤ 256 }

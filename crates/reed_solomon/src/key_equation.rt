@@ -1,7 +1,7 @@
 // Berlekamp and Massey's algorithm over any field: the polynomial whose roots tell where the errors are.
-ghost use Rattle.std.specs.Prelude.{◌≡◌, ℕ, ◌+◌, ◌<◌, ◌≤◌, length, slice_index};
+ghost use Rattle.std.specs.Prelude.{◌≡◌, ◌+◌, ◌<◌, ◌≤◌, length, slice_index};
 ghost use Rattle.coding_theory.specs.Algebra.{plain};
-ghost use Rattle.coding_theory.specs.Decoder.{State, disc, turned, wide};
+ghost use Rattle.coding_theory.specs.Decoder.{disc, turned, wide};
 ghost use Rattle.reed_solomon.specs.States.{state};
 
 use crate::field::Field;
@@ -27,7 +27,7 @@ struct KeyEquation<const W: usize> {
 }
 
 impl<const W: usize> KeyEquation<W> {
-    // One turn, at syndrome n.
+    // One turn, at syndrome n. W ≤ 256 since an array that is lent to be written owes a bound, and a const parameter carries none.
     fn advance<F: Field>(&mut self, s: &[u8], n: usize)
         requires n_in_bounds { n < length s.now }
         requires n_bound { n ≤ 256 }
@@ -64,6 +64,7 @@ pub(crate) fn connect<F: Field, const W: usize>(s: &[u8]) -> [u8; W]
     };
     equation.con[0] = 1;
     equation.rep[1] = 1;
+    // n is the number of the turn: lengths are compared with it
     for n in 0..s.len() {
         equation.advance::<F>(s, n);
     }

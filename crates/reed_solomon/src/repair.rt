@@ -1,5 +1,5 @@
 // The places of the errors, and their values.
-ghost use Rattle.std.specs.Prelude.{◌≡◌, ℕ, suc, ◌+◌, ◌-◌, ◌<◌, ◌≤◌, length, MatchOption, slice_index};
+ghost use Rattle.std.specs.Prelude.{◌≡◌, ℕ, suc, ◌-◌, ◌<◌, ◌≤◌, length, MatchOption, slice_index};
 ghost use Rattle.coding_theory.specs.Algebra.{plain};
 ghost use Rattle.coding_theory.specs.Decoder.{located, repaired, taken, valued};
 ghost use Rattle.coding_theory.specs.Words.{from, power};
@@ -53,10 +53,8 @@ fn raised<F: Field>(x: u8, e: u64) -> u8
     value
 }
 
-// Arrays of a const parameter have at most 256 elements here and in the key equation: what lends one to be written owes a bound of its size,
-// and a const parameter carries no fact of its own.
-
-// The errors of a word of `n` symbols: their places, and the power sums of their values, as many; `first` is the code's first power.
+// The errors of a word of `n` symbols: their places, and the power sums of their values, as many; `first` is the code's first power. The
+// methods ask for W ≤ 256 as an array of W that is lent to be written owes a bound, and a const parameter carries no fact of its own.
 #[derive(Drop)]
 struct Errors<'a> {
     n: usize,

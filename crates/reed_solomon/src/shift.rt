@@ -29,8 +29,8 @@ fn shifted_product(a: u8, b: u8) -> u8
     sum
 }
 
-// The bytes modulo x^8 + x^4 + x^3 + x^2 + 1: a product adds shifted copies. Constants and sum are those of the field by tables as well: each
-// implementation gives its own, since the trait, which is over any field, can give no default.
+// The bytes modulo x^8 + x^4 + x^3 + x^2 + 1: a product adds shifted copies. Constants and sum are those of the field by tables as well: one
+// implementation for both would need a trait under `Field` with laws of its own, for two numbers and one line.
 pub struct Shift256 {}
 
 impl Field for Shift256 {

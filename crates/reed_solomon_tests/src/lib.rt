@@ -52,16 +52,16 @@ mod tests {
         assert!(rt; !is_code_word::<Table256>(BYTE_CODE, &word[0..203]));
     }
 
-    // the count, or 100 and the refusal's number
-    fn told(r: Result<u8, CodeRefusal>) -> u32 {
-        r.map_or_else(|refusal| refusal.number().saturating_add(100), u32::from)
+    // the count, or the refusal's number
+    fn told(r: Result<u8, CodeRefusal>) -> Result<u8, u32> {
+        r.map_err(|refusal| refusal.number())
     }
 
     // the word after a corrector, and the answer
     fn after<C: FnOnce(&mut [u8]) -> Result<u8, CodeRefusal>>(
         corrector: C,
         mut word: [u8; 204],
-    ) -> ([u8; 204], u32)
+    ) -> ([u8; 204], Result<u8, u32>)
         requires { C.IsAlwaysCallable corrector }
     {
         let answer = told(corrector(&mut word));
@@ -74,11 +74,14 @@ mod tests {
         for byte in word[..200].iter_mut().step_by(25) {
             *byte = 1;
         }
-        assert_eq!(rt; after(|w| correct::<Table256>(w), word), ([0u8; 204], 8));
-        assert_eq!(rt; after(|w| correct_bytes(w), word), ([0u8; 204], 8));
+        assert_eq!(rt;
+            after(|w| correct::<Table256>(w), word),
+            ([0u8; 204], Ok(8))
+        );
+        assert_eq!(rt; after(|w| correct_bytes(w), word), ([0u8; 204], Ok(8)));
         word[203] = 1;
-        assert_eq!(rt; after(|w| correct::<Shift256>(w), word), (word, 111));
-        assert_eq!(rt; after(|w| correct_bytes(w), word), (word, 111));
+        assert_eq!(rt; after(|w| correct::<Shift256>(w), word), (word, Err(11)));
+        assert_eq!(rt; after(|w| correct_bytes(w), word), (word, Err(11)));
     }
 
     #[test]
@@ -93,10 +96,10 @@ mod tests {
     #[test]
     fn other_lengths_are_kept(rt: HostRuntime) {
         let mut short = [7u8; 203];
-        assert_eq!(rt; told(correct::<Table256>(&mut short)), 114);
+        assert_eq!(rt; told(correct::<Table256>(&mut short)), Err(14));
         assert_eq!(rt; short, [7u8; 203]);
         let mut long = [7u8; 205];
-        assert_eq!(rt; told(correct_bytes(&mut long)), 114);
+        assert_eq!(rt; told(correct_bytes(&mut long)), Err(14));
         assert_eq!(rt; long, [7u8; 205]);
     }
 
@@ -110,7 +113,7 @@ mod tests {
         let mut late = [0u8; 204];
         late[0..203].copy_from_slice(&a[1..204]);
         late[203] = b[0];
-        assert_eq!(rt; after(|w| correct::<Table256>(w), late), (late, 111));
-        assert_eq!(rt; after(|w| correct_bytes(w), late), (late, 111));
+        assert_eq!(rt; after(|w| correct::<Table256>(w), late), (late, Err(11)));
+        assert_eq!(rt; after(|w| correct_bytes(w), late), (late, Err(11)));
     }
 }

@@ -1,7 +1,7 @@
 // The remainder by the generator polynomial of the code with sixteen check bytes, four bytes at a step.
 #![tactic(auto)]
 
-ghost use Rattle.std.specs.Prelude.{◌≡◌, ℕ, ◌<◌, ◌++◌, fold};
+ghost use Rattle.std.specs.Prelude.{◌≡◌, ◌<◌, ◌++◌, fold};
 ghost use Rattle.remainder.specs.Register.{SameValues, Zeros, absorbed, bytes_of, combined, rows_after};
 
 mod multiples;

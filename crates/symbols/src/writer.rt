@@ -1,5 +1,5 @@
 // Frames of the line to symbols.
-ghost use Rattle.std.specs.Prelude.{◌≡◌, ◌+◌, ◌*◌, ◌≤◌, ◌∷◌, [], length, take, drop, slice_index};
+ghost use Rattle.std.specs.Prelude.{◌≡◌, ◌+◌, ◌*◌, ◌≤◌, ◌∷◌, length, take, drop, slice_index};
 ghost use Rattle.symbols.specs.Bits.{number, octets};
 ghost use Rattle.symbols.specs.Stages.{after_append, after_draw, append_answer, drawn, fresh_outgoing};
 

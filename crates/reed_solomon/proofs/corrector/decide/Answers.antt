@@ -22,8 +22,8 @@ settle-requires-clause-by_index g c =
     z o (subst (λ (w : List ℕ). Near g.F.Field.ops w z) (sym whole.same) near) in
     let is = c.in-Some-restore.is in cc
 
-pub returns-in-None : goal.returns-in-None
-returns-in-None g c =
+pub returns-in_default-restore : goal.returns-in_default-restore
+returns-in_default-restore g c =
     let v : List ℕ = c.in-Some.received.now in
     let w : List ℕ = c.args.word.now in
     let whole = c.in-Some.ensures.cases in
@@ -31,4 +31,4 @@ returns-in-None g c =
     (λ z o near.
     let found = found_by v c.in-Some-nonzero_syndromes.s c.restore.result (ap length whole.same ∙ whole.long) (λ k. search rules) c.in-Some-nonzero_syndromes.ensures.0 c.restore.ensures
     z o (subst (λ (w : List ℕ). Near g.F.Field.ops w z) (sym whole.same) near) in
-    let is = c.in-None.is in cc)
+    let is = c.in_default-restore.is in cc)
