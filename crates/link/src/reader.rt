@@ -1,5 +1,5 @@
 // Words to outcomes: each is read, and its packet restored at its position in the group of eight.
-ghost use Rattle.std.specs.Prelude.{◌≡◌, ◌%◌, ◌<◌, [], ◌∷◌, length, take, None, IfOk};
+ghost use Rattle.std.specs.Prelude.{◌≡◌, ◌%◌, ◌<◌, [], ◌∷◌, take, None, IfOk};
 ghost use Rattle.framing.specs.Group.{expected_after};
 ghost use Rattle.framing.specs.Mask.{restored};
 ghost use Rattle.framing.specs.Mending.{mended};
@@ -37,8 +37,7 @@ fn event_of(answer: Result<u8, WordRefusal>, first: u8) -> Event
 }
 
 // The packet of a word at its position.
-fn packet_of(word: &[u8], position: u8) -> [u8; 188]
-    requires { length word.now ≡ 204 }
+fn packet_of(word: &[u8; 204], position: u8) -> [u8; 188]
     ensures { result ≡ restored (position % 8) (take 188 word.now) }
 {
     let mut bytes = [0u8; 188];
@@ -59,8 +58,7 @@ impl PacketReader {
     }
 
     // Mends a word, and answers its position and how many bytes were corrected.
-    fn place(&mut self, word: &mut [u8]) -> Result<(u8, u8), LinkFault>
-        requires { length word.old ≡ 204 }
+    fn place(&mut self, word: &mut [u8; 204]) -> Result<(u8, u8), LinkFault>
         ensures placed { result ≡ placed_at self.old.expected (mended word.old) }
         ensures within { IfOk result (λ p. p.0 < 8) }
         ensures buffer { word.new ≡ (mended word.old).buffer }

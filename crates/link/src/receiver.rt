@@ -14,7 +14,7 @@ use delay_line::{DelayLine, Half};
 use link_theory::{CollectRefusal, Outcome, TakeRefusal};
 use symbols::{Mapping, SymbolReader};
 
-// Over the receiving half of any delay line.
+// Over the receiving half of any delay line. It has no `impl Model`, as a sender has none.
 #[derive(Drop)]
 pub struct Receiver<D: DelayLine> {
     symbols: SymbolReader,
@@ -73,6 +73,7 @@ impl<D: DelayLine> Receiver<D> {
         ensures done { receiver_after result self.new ≡ collect_of self.old buffer.old }
         ensures buffer { buffer.new ≡ (collected buffer.old (receiver_of self.old)).buffer }
     {
+        // tried by its length alone: one of three outcomes is copied, and the buffer as an array of 188 would serve that one only
         if buffer.len() != 188 {
             return Err(CollectRefusal::Length);
         }

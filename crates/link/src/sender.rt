@@ -9,7 +9,7 @@ use framing::{next_position, sent_word};
 use link_theory::{DrawRefusal, LoadRefusal};
 use symbols::{Mapping, SymbolWriter};
 
-// Over the sending half of any delay line. `position` is that of the next packet in its group of eight.
+// Over the sending half of any delay line. It has no `impl Model`: what a sender means has functions in it, and a model's value is data. `position` is that of the next packet in its group of eight.
 #[derive(Drop)]
 pub struct Sender<D: DelayLine> {
     half: Half<D>,
@@ -31,18 +31,16 @@ impl<D: DelayLine> Sender<D> {
     }
 
     // Randomizes and codes a packet, passes its word through the delay line, and answers the number of undrawn bits.
-    fn accept(&mut self, packet: &[u8]) -> u32
-        requires whole { length packet.now ≡ 188 }
-        requires drawn { length (sender_of self.old).outgoing.undrawn < (settings_of self.old).bits }
+    fn accept(&mut self, packet: &[u8; 188]) -> u32
+        requires { length (sender_of self.old).outgoing.undrawn < (settings_of self.old).bits }
         ensures sender { sender_of self.new ≡ after_load (settings_of self.old).delays packet.now (sender_of self.old) }
         ensures answer { result ≡ length (sender_of self.new).outgoing.undrawn }
         ensures settings { settings_of self.new ≡ settings_of self.old }
     {
-        let mut message = [0u8; 188];
-        message.copy_from_slice(packet);
-        let mut frame = sent_word(&message, self.position);
+        let mut frame = sent_word(packet, self.position);
         self.half.carry(&mut frame);
         self.position = next_position(self.position);
+        // taken, since fewer than m bits are undrawn and m is below eight
         let _ = self.writer.append(&frame);
         self.writer.undrawn_bits()
     }
@@ -51,16 +49,16 @@ impl<D: DelayLine> Sender<D> {
     pub fn load(&mut self, packet: &[u8]) -> Result<u32, LoadRefusal>
         ensures done { sender_after result self.new ≡ load_of self.old packet.now }
     {
-        if packet.len() != 188 {
+        let Ok(packet) = <[u8; 188]>::try_from(packet) else {
             return Err(LoadRefusal::Length);
-        }
+        };
         if packet[0] != 0x47 {
             return Err(LoadRefusal::Sync);
         }
         if self.writer.undrawn_bits() >= self.writer.mapping().bits() {
             return Err(LoadRefusal::Undrawn);
         }
-        Ok(self.accept(packet))
+        Ok(self.accept(&packet))
     }
 
     // What `draw` does, apart from it so that the law there needs no proof at each exit.

@@ -1,4 +1,4 @@
-// The link from packets to symbols and back, as models with laws over whole runs of calls; and the refusals of its calls.
+// The link from packets to symbols and back, as models with laws over whole runs of calls; the refusals of its calls, and what a word becomes.
 #![tactic(auto)]
 
 mod laws;

@@ -57,6 +57,7 @@ pub enum CollectRefusal {
     Fault { frame: u32, fault: LinkFault },
 }
 
+// Not derived: a derived `From` has no contract, and clauses say which fault comes up.
 impl From<WordRefusal> for LinkFault {
     ghost from_gives = { λ x y. y ≡ Word x };
 
@@ -65,6 +66,7 @@ impl From<WordRefusal> for LinkFault {
     }
 }
 
+// A cast needs the enum's own type, so each enum of refusals casts itself.
 impl LoadRefusal {
     pub fn number(&self) -> u32
         ensures { result ≡ load_number self.now }
@@ -89,6 +91,7 @@ impl TakeRefusal {
     }
 }
 
+// A fault is told as three numbers, by case, since the corrector's brings its own; what a refused call has none of is 0: a rule of the project.
 impl LinkFault {
     pub fn number(&self) -> u32
         ensures { result ≡ link_number self.now }
@@ -111,7 +114,6 @@ impl LinkFault {
     }
 }
 
-// A refusal is told as three numbers, and what a refused call has none of is 0: a rule of the project.
 impl CollectRefusal {
     pub fn number(&self) -> u32
         ensures { result ≡ collect_number self.now }
