@@ -51,7 +51,7 @@ fn read_frames(rt: &HostRuntime, file: &'static str) -> Result<[Frame; FRAMES], 
     frames_of(file, &text)
 }
 
-// How many frames are the same in both.
+// How many frames are the same in both: `agreeing` at frames, apart from it so that a clause names the equality of frames.
 fn same_frames(a: &[Frame], b: &[Frame]) -> usize
     ensures { result ≡ agreeing_places ⟦<Frame as PartialEq>⟧.eq a.now b.now }
 {

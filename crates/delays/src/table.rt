@@ -35,9 +35,10 @@ pub fn print_row<S: Scheme>(rt: &impl Print, name: &str, scheme: &S) -> anyhow::
 }
 
 pub fn print_boards(rt: &impl Print) -> anyhow::Result<()> {
-    print_row(rt, "board 0", &BoardDelay::try_from(0)?)?;
-    print_row(rt, "board 1", &BoardDelay::try_from(1)?)?;
-    print_row(rt, "board 203", &BoardDelay::try_from(203)?)
+    for (name, places) in [("board 0", 0), ("board 1", 1), ("board 203", 203)] {
+        print_row(rt, name, &BoardDelay::try_from(places)?)?;
+    }
+    Ok(())
 }
 
 pub fn print_stacks(rt: &impl Print) -> anyhow::Result<()> {

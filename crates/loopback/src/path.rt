@@ -14,7 +14,7 @@ const AFTER: u32 = 16;
 const NULL_HEADER: [u8; 4] = [0x47, 0x1F, 0xFF, 0x10];
 
 // What became of a word: a packet, and how many bytes of the word were corrected, or its fault.
-type Outcome<'a> = Result<(&'a [u8], u8), LinkFault>;
+type Collected<'a> = Result<(&'a [u8], u8), LinkFault>;
 
 // Whether this is the packet that was loaded with a frame number.
 fn is_loaded(packet: &[u8], stream: &[u8], frame: u32) -> bool {
@@ -41,7 +41,7 @@ impl<A: DelayLine, B: DelayLine> Path<A, B> {
     }
 
     // Hands the outcome that waits to `note`, with the frame number of its word.
-    fn collect<F: FnMut(u32, Outcome<'_>)>(&mut self, note: &mut F) -> anyhow::Result<()>
+    fn collect<F: FnMut(u32, Collected<'_>)>(&mut self, note: &mut F) -> anyhow::Result<()>
         requires { (state : F) (frame : _) (outcome : _) → F.pre state frame outcome }
     {
         let mut packet = [0u8; PACKET];
@@ -56,7 +56,11 @@ impl<A: DelayLine, B: DelayLine> Path<A, B> {
     }
 
     // Sends a packet, and hands each outcome that comes meanwhile to `note`.
-    fn send<F: FnMut(u32, Outcome<'_>)>(&mut self, packet: &[u8], mut note: F) -> anyhow::Result<()>
+    fn send<F: FnMut(u32, Collected<'_>)>(
+        &mut self,
+        packet: &[u8],
+        mut note: F,
+    ) -> anyhow::Result<()>
         requires { (state : F) (frame : _) (outcome : _) → F.pre state frame outcome }
     {
         let bits = self

@@ -69,7 +69,7 @@ impl<D: DelayLine> Reception<'_, D> {
     }
 }
 
-// The first steps are those of `send` too: a function for both would hand out a pair of what two lines read plainly here.
+// `send` begins alike: `transport` takes the argument and not the runtime, so that a contract and a test can speak of it.
 fn run(rt: &HostRuntime) -> anyhow::Result<()> {
     let argument = env::args(rt)?.nth(1);
     let mapping = mapping_asked(argument.as_deref()).map_err(|refusal| anyhow!(

@@ -74,7 +74,7 @@ impl<D: DelayLine> Transmission<'_, D> {
     }
 }
 
-// The first steps are those of `receive` too: a function for both would hand out a pair of what two lines read plainly here.
+// `receive` begins alike: `transport` takes the argument and not the runtime, so that a contract and a test can speak of it.
 fn run(rt: &HostRuntime) -> anyhow::Result<()> {
     let argument = env::args(rt)?.nth(1);
     let mapping = mapping_asked(argument.as_deref()).map_err(|refusal| anyhow!(

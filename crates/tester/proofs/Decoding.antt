@@ -1,7 +1,7 @@
 -- What the library's decoder reads out of digits, in the words of specs/Hex.
-use Rattle.std.proofs.Common.{◌≡◌, ℕ, zero, suc, ◌+◌, ◌*◌, ◌<◌, true, List, [], ◌∷◌, length, Option, Some, Ok, Err, Result, slice_index, refl, sym, ◌∙◌, arith}
+use Rattle.std.proofs.Common.{◌≡◌, ℕ, zero, suc, ◌+◌, ◌*◌, ◌<◌, true, false, List, [], ◌∷◌, length, Option, None, Some, Ok, Err, Result, slice_index, is_some, subst, refl, sym, ◌∙◌, arith}
 use Rattle.std.specs.Option.{MatchOption}
-use Rattle.std.specs.Result.{result_ok}
+use Rattle.std.specs.Result.{MatchResult, result_ok}
 use Rattle.std.proofs.lemmas.Grind.{common_steps}
 use Rattle.hex.specs.Hex.{hex_digit_value, is_hex_digit, decode_pairs, decode_sized}
 use Rattle.hex.specs.declared.error.FromHexError.{FromHexError}
@@ -47,3 +47,12 @@ decides text n r e = decided (decode_sized text n) refl
         let same : Ok bytes ≡ Ok (bytes_of text) = sym q ∙ written text n w in
         rw (e, q) (w, cc)
     decided (Err x) q = rw (e, q) (λ w. cc (written text n w))
+
+pub no_bad_digit : (P : Type 0) (Q : ℕ → Type 0) (o : Option ℕ) → MatchOption o P Q → false ≡ is_some o → P
+no_bad_digit P Q None m e = m
+no_bad_digit P Q (Some k) m e = absurd (cc e)
+
+-- what is written goes into a slice of its length
+pub filled : (text out new : List ℕ) (r : Result (Unit {0}) FromHexError) → Writes (length out) text
+    → MatchResult (decode_sized text (length out)) (λ bytes. (r ≡ Ok tt) × (new ≡ bytes)) (λ e. r ≡ Err e) → (r ≡ Ok tt) × (new ≡ bytes_of text)
+filled text out new r w m = subst (λ d. MatchResult d (λ bytes. (r ≡ Ok tt) × (new ≡ bytes)) (λ e. r ≡ Err e)) (written text (length out) w) m

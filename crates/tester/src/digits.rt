@@ -1,8 +1,8 @@
 // Bytes as hex digits, in either case.
-ghost use Rattle.std.specs.Prelude.{◌≡◌, ℕ, ◌<◌, true, false, length, MatchOption, slice_index};
+ghost use Rattle.std.specs.Prelude.{◌≡◌, ℕ, ◌<◌, true, false, length, if◌then◌else◌, is_some, MatchOption, slice_index};
 ghost use Rattle.tester.specs.Hex.{Writes, bytes_of, is_digit};
 
-use hex::FromHex;
+use hex::{FromHex, decode_to_slice};
 
 pub fn is_digit(c: u8) -> bool
     ensures { result ≡ is_digit c }
@@ -22,4 +22,15 @@ pub fn decode<const N: usize>(text: &[u8]) -> Option<[u8; N]>
     ensures { MatchOption result (Writes N text.now → ⊥) (λ bytes. Writes N text.now × (bytes ≡ bytes_of text.now)) }
 {
     <[u8; N]>::from_hex(text).ok()
+}
+
+// The same into a slice of any length, which is left as it was where `text` does not write just its bytes.
+pub fn decode_into(text: &[u8], out: &mut [u8]) -> Option<()>
+    ensures answer { MatchOption result (Writes (length out.old) text.now → ⊥) (λ _. Writes (length out.old) text.now) }
+    ensures bytes { out.new ≡ (if is_some result then bytes_of text.now else out.old) }
+{
+    if text.len() % 2 != 0 || text.len() / 2 != out.len() || first_bad_digit(text).is_some() {
+        return None;
+    }
+    decode_to_slice(text, out).ok()
 }

@@ -8,7 +8,7 @@ mod reply;
 
 pub use account::Account;
 pub use command::{Command, Flaw, Verb, read_command};
-pub use digits::{decode, first_bad_digit, is_digit};
+pub use digits::{decode, decode_into, first_bad_digit, is_digit};
 pub use reply::{Kind, Refusal, Reply, answer};
 
 #[cfg(test)]

@@ -73,6 +73,7 @@ impl Refusal {
     pub fn number(&self) -> u32
         ensures { result ≡ number_of self.now }
     {
+        // a cast needs the enum's own type, so each enum of refusals casts itself
         *self as u32
     }
 }

@@ -35,8 +35,8 @@ impl Outcomes {
         self.first = self.first.or(Some(frame));
     }
 
-    // A word that gave no packet, by this fault. It counts by the number that the fault carries, which is a rule of the project: a fault of
-    // the corrector is a record of numbers.
+    // A word that gave no packet, by this fault. By number and not by case: a fault of the corrector is a record of numbers, a rule of the
+    // project, and the promise counts by its number.
     pub fn add_fault(&mut self, fault: LinkFault)
         ensures { self.new ≡ with_fault (link_number fault) self.old }
     {
