@@ -1,5 +1,5 @@
 -- What the answers of the corrector come to.
-use Rattle.std.proofs.Common.{◌≡◌, ℕ, ◌+◌, ◌*◌, ◌<◌, true, false, List, length, get_or, Option, None, Some, is_some, Ok, Err, Result, sym, refl, ap, ◌∙◌, subst, arith}
+use Rattle.std.proofs.Common.{◌≡◌, ℕ, ◌+◌, ◌*◌, ◌<◌, List, length, get_or, Option, Some, Ok, Err, Result, sym, refl, ap, ◌∙◌, subst, arith}
 use Rattle.std.proofs.lemmas.List.{length-take-le, length-drop}
 use Rattle.coding_theory.specs.Field.{Arithmetic, Lawful}
 use Rattle.coding_theory.specs.Algebra.{plain}
@@ -11,7 +11,7 @@ use Rattle.coding_theory.proofs.Distance.{minimum_distance}
 use Rattle.coding_theory.proofs.Misaligned.{late_windows, early_windows}
 use Rattle.reed_solomon.specs.Correction.{Near, Restored, Corrected, Read, LateRefused, EarlyBegins, OneCorrection}
 use Rattle.reed_solomon.specs.Refusals.{no_word}
-use Rattle.reed_solomon.specs.Syndromes.{ZeroAt, Evaluated, values}
+use Rattle.reed_solomon.specs.Syndromes.{ZeroAt, values}
 use Rattle.reed_solomon.specs.declared.refusal.CodeFault.{CodeFault}
 use Rattle.reed_solomon.specs.declared.refusal.CodeRefusal.{CodeRefusal}
 use Rattle.reed_solomon.specs.declared.refusal.CodeRefusal.TheVariants.{Length, Fault}
@@ -88,15 +88,6 @@ module _ {A : Arithmetic} (L : Lawful A) (w : List ℕ) where
   -- a word of 204 bytes that is zero at the sixteen powers
   pub zero_word : (v : List ℕ) → A.order ≡ 256 → length v ≡ 204 → ((k : ℕ) → get_or v k 0 < 256) → ZeroAt A 0 16 v → CodeWord A 204 0 16 v
   zero_word v o l bytes zeros = record { size = l; elements = λ k u. omega (arith, bytes k); zeros = zeros }
-
--- what the syndromes that are found, or not, say of the word
-pub zero_if_none : (A : Arithmetic) (w : List ℕ) (r : Option (List ℕ)) → Evaluated A w r → is_some r ≡ false → ZeroAt A 0 16 w
-zero_if_none A w None h e = h
-zero_if_none A w (Some s) h e = cc
-
-pub other_if_some : (A : Arithmetic) (w : List ℕ) (r : Option (List ℕ)) → Evaluated A w r → is_some r ≡ true → ZeroAt A 0 16 w → ⊥
-other_if_some A w None h e = cc
-other_if_some A w (Some s) h e = h.1
 
 -- a code word within eight bytes is the one that is restored
 pub found_by : {A : Arithmetic} (w s : List ℕ) (r : Option (List ℕ)) → length w ≡ 204 → ((k : ℕ) → get_or w k 0 < 256) → s ≡ values A 0 16 w → Restored A 0 8 s w r

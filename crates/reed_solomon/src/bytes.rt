@@ -45,6 +45,10 @@ impl Evaluation<Table256> for Remainder {
         syndromes::<Table256>(&bytes_of(left), 0, &mut s);
         Some(s)
     }
+
+    fn is_zero(word: &[u8; 204]) -> bool {
+        gap(word) == 0
+    }
 }
 
 // What `correct` does over the field of bytes.

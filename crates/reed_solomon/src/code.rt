@@ -52,7 +52,7 @@ fn are_elements<F: Field>(word: &[u8]) -> bool
 }
 
 // Whether `word` is zero at `count` powers of alpha from alpha^first on.
-fn is_zero_at_powers<F: Field>(word: &[u8], first: u64, count: usize) -> bool
+pub(crate) fn is_zero_at_powers<F: Field>(word: &[u8], first: u64, count: usize) -> bool
     ensures { IsTrue result ↔ ZeroAt F.ops first count word.now }
 {
     let mut x = F::power(first);

@@ -2,9 +2,9 @@
 ghost use Rattle.std.specs.Prelude.{◌≡◌, ℕ, ◌<◌, ◌↔◌, List, length, Some, None, IsTrue, slice_index};
 ghost use Rattle.coding_theory.specs.Words.{differ};
 ghost use Rattle.reed_solomon.specs.Correction.{Corrected, EarlyBegins, LateRefused, Near};
-ghost use Rattle.reed_solomon.specs.Syndromes.{Evaluated, values};
+ghost use Rattle.reed_solomon.specs.Syndromes.{Evaluated, ZeroAt, values};
 
-use crate::code::syndromes;
+use crate::code::{is_zero_at_powers, syndromes};
 use crate::field::Field;
 use crate::refusal::{CodeFault, CodeRefusal};
 use crate::repair::restore;
@@ -27,6 +27,10 @@ pub(crate) trait Evaluation<F: Field> {
     // The syndromes of `word`, or nothing if all are 0.
     fn nonzero_syndromes(word: &[u8; 204]) -> Option<[u8; 16]>
         ensures { Evaluated F.ops word.now result };
+
+    // Whether all are 0: told without finding those behind the first that is not.
+    fn is_zero(word: &[u8; 204]) -> bool
+        ensures { IsTrue result ↔ ZeroAt F.ops 0 16 word.now };
 }
 
 // At how many places two words of one length differ.
@@ -53,6 +57,10 @@ impl<F: Field> Evaluation<F> for Horner {
         syndromes::<F>(word, 0, &mut s);
         if are_zero(&s) { None } else { Some(s) }
     }
+
+    fn is_zero(word: &[u8; 204]) -> bool {
+        is_zero_at_powers::<F>(word, 0, 16)
+    }
 }
 
 // Takes `fixed` for the word if it is a code word within eight bytes of it.
@@ -66,7 +74,7 @@ fn settle<F: Field, E: Evaluation<F>>(word: &mut [u8], fixed: &[u8; 204]) -> Res
     if count > CORRECTABLE {
         return Err(NO_WORD);
     }
-    if E::nonzero_syndromes(fixed).is_some() {
+    if !E::is_zero(fixed) {
         return Err(NO_WORD);
     }
     word.copy_from_slice(fixed);

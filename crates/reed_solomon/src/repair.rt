@@ -53,8 +53,8 @@ fn raised<F: Field>(x: u8, e: u64) -> u8
     value
 }
 
-// The errors of a word of `n` symbols: their places, and the power sums of their values, as many; `first` is the code's first power. The
-// methods ask for W ≤ 256 as an array of W that is lent to be written owes a bound, and a const parameter carries no fact of its own.
+// The errors of a word of `n` symbols: their places, and the power sums of their values, as many; `first` is the code's first power.
+// `repair` asks for W ≤ 256 as an array of W that is lent to be written owes a bound, and a const parameter carries no fact of its own.
 #[derive(Drop)]
 struct Errors<'a> {
     n: usize,
@@ -74,17 +74,14 @@ impl<'a> Errors<'a> {
         F::power((self.n - 1 - p as usize) as u64)
     }
 
-    // The value of the error at `q`, one of the places; there are at most W.
-    fn value<F: Field, const W: usize>(&self, q: u8) -> u8
+    // The value of the error at `q`, one of the places; `t` is room to work in.
+    fn value<F: Field>(&self, t: &mut [u8], q: u8) -> u8
         requires some { 0 < length self.now.sums.now }
-        requires fits { length self.now.sums.now ≤ W }
-        requires width { W ≤ 256 }
+        requires t_len { length t.old ≡ length self.now.sums.now }
         requires q_lt_n { q < self.now.n }
         ensures { result ≡ valued (plain F.ops) (λ p. F.ops.pow (self.now.n - suc p)) q self.now.places.now self.now.sums.now (power (plain F.ops) (F.ops.pow (self.now.n - suc q)) self.now.first) }
     {
         let x = self.locator::<F>(q);
-        let mut room = [0u8; W];
-        let t = &mut room[..self.sums.len()];
         t.copy_from_slice(self.sums);
         let mut den = raised::<F>(x, self.first);
         for p in self.places {
@@ -97,15 +94,18 @@ impl<'a> Errors<'a> {
         F::product(t[0], F::inverse(den))
     }
 
-    // Adds the error at each of the places.
+    // Adds the error at each of the places; there are at most W. They share one room: a room made anew for each is zeroed by a call of
+    // memset, which a caller in C would have to bring.
     fn repair<F: Field, const W: usize>(&self, word: &mut [u8])
         requires word_len { length word.old ≡ self.now.n }
         requires fits { length self.now.sums.now ≤ W }
         requires width { W ≤ 256 }
         ensures { word.new ≡ repaired (plain F.ops) (λ p. F.ops.pow (self.now.n - suc p)) self.now.first self.now.sums.now self.now.places.now self.now.places.now word.old }
     {
+        let mut room = [0u8; W];
+        let t = &mut room[..self.sums.len()];
         for p in self.places {
-            word[*p as usize] = F::sum(word[*p as usize], self.value::<F, W>(*p));
+            word[*p as usize] = F::sum(word[*p as usize], self.value::<F>(t, *p));
         }
     }
 }
