@@ -47,6 +47,7 @@ impl Group {
         ensures position { result ≡ position_of self.old event }
         ensures next { self.new ≡ expected_after self.old event }
         ensures within { IfSome result (λ g. g < 8) }
+        ensures known { IfSome self.old (λ g. g < 8) × IfSome self.new (λ g. g < 8) }
     {
         match (self.expected, event) {
             (_, Event::GroupStart) => {

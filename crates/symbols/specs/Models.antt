@@ -1,5 +1,5 @@
 -- What the symbol writer and the symbol reader are to their callers.
-use Rattle.std.specs.Prelude.{ℕ, List, drop}
+use Rattle.std.specs.Prelude.{ℕ, ◌<◌, ◌≤◌, List, length, drop}
 use Rattle.symbols.specs.Bits.{bits, octets}
 use Rattle.symbols.specs.Stages.{Outgoing, Incoming}
 use Rattle.symbols.specs.declared.mapping.Mapping.{Mapping}
@@ -21,3 +21,11 @@ outgoing_of line next turn = record { undrawn = drop next (octets line); turn = 
 -- the bits of the number `held`
 unfoldable pub incoming_of : (count held turn : ℕ) → Incoming
 incoming_of count held turn = record { bits = bits count held; turn = turn }
+
+-- what is true of each writer: its line has at most 1,640 bits, and the last symbol's turn is one of four
+abbrev pub WithinLine : Writer → Type 0
+WithinLine w = (length w.outgoing.undrawn ≤ 1640) × (w.outgoing.turn < 4)
+
+-- what is true of each reader: the bits at hand fill no byte, and the last symbol's turn is one of four
+abbrev pub WithinByte : Reader → Type 0
+WithinByte r = (length r.incoming.bits < 8) × (r.incoming.turn < 4)

@@ -1,5 +1,6 @@
 // Symbols to the line's bytes.
 ghost use Rattle.std.specs.Prelude.{◌≡◌, ◌+◌, ◌*◌, ◌^◌, ◌<◌};
+ghost use Rattle.symbols.specs.Models.{WithinByte};
 ghost use Rattle.symbols.specs.Stages.{fresh_incoming, taken};
 
 use crate::mapping::Mapping;
@@ -49,7 +50,8 @@ impl SymbolReader {
 
     // The writer has the same: a trait for this one getter would be no plainer than its two lines.
     pub fn mapping(&self) -> Mapping
-        ensures { result ≡ self.now.mapping }
+        ensures value { result ≡ self.now.mapping }
+        ensures within { WithinByte self.now }
     {
         self.mapping
     }
@@ -67,6 +69,7 @@ impl SymbolReader {
     pub fn take(&mut self, symbol: u8) -> Option<u8>
         ensures byte { result ≡ (taken self.old.mapping.bits symbol self.old.incoming).gives }
         ensures reader { self.new ≡ record self.old { incoming = (taken self.old.mapping.bits symbol self.old.incoming).next } }
+        ensures within { WithinByte self.new }
     {
         let mapping = self.mapping;
         let m = mapping.bits();

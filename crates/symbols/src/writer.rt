@@ -1,6 +1,7 @@
 // Frames of the line to symbols.
 ghost use Rattle.std.specs.Prelude.{◌≡◌, ◌+◌, ◌*◌, ◌≤◌, ◌∷◌, length, take, drop, slice_index};
 ghost use Rattle.symbols.specs.Bits.{number, octets};
+ghost use Rattle.symbols.specs.Models.{WithinLine};
 ghost use Rattle.symbols.specs.Stages.{after_append, after_draw, append_answer, drawn, fresh_outgoing};
 
 use crate::mapping::Mapping;
@@ -88,9 +89,10 @@ impl SymbolWriter {
         self.mapping
     }
 
-    // How many bits are still to be drawn.
+    // How many bits are still to be drawn: never more than the line has.
     pub fn undrawn_bits(&self) -> u32
-        ensures { result ≡ length self.now.outgoing.undrawn }
+        ensures value { result ≡ length self.now.outgoing.undrawn }
+        ensures within { WithinLine self.now }
     {
         (LINE_BITS - self.next) as u32
     }
@@ -115,6 +117,7 @@ impl SymbolWriter {
     pub fn draw(&mut self) -> Option<u8>
         ensures symbol { result ≡ drawn self.old.mapping.bits self.old.outgoing }
         ensures writer { self.new ≡ record self.old { outgoing = after_draw self.old.mapping.bits self.old.outgoing } }
+        ensures within { WithinLine self.new }
     {
         let mapping = self.mapping;
         let m = mapping.bits();

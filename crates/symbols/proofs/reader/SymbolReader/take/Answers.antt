@@ -1,10 +1,12 @@
-use Rattle.std.proofs.Common.{◌≡◌, ℕ, ◌+◌, ◌-◌, ◌*◌, ◌/◌, ◌%◌, ◌^◌, ◌<◌, ◌≤◌, ◌++◌, drop, sym, ap, ◌∙◌, subst, arith, rules}
+use Rattle.std.proofs.Common.{◌≡◌, ℕ, ◌+◌, ◌-◌, ◌*◌, ◌/◌, ◌%◌, ◌^◌, ◌<◌, ◌≤◌, ◌++◌, length, drop, sym, ap, ◌∙◌, subst, arith, rules}
 use Rattle.std.proofs.lemmas.Nat.{one_shl, shr_below}
 use Rattle.symbols.specs.Bits.{number, bits}
 use Rattle.symbols.specs.Turns.{lead, turn_of, tuple_of}
-use Rattle.symbols.specs.Models.{incoming_of}
+use Rattle.symbols.specs.Models.{Reader, incoming_of}
 use Rattle.symbols.specs.Stages.{Incoming, Gives, heard, taken}
 use Rattle.symbols.proofs.Hearing.{tuple_lt, symbol_taken, heard_few, heard_full}
+use Rattle.symbols.proofs.Numbers.{length_bits}
+use Rattle.symbols.proofs.Tuples.{turn_lt}
 use Rattle.symbols.proofs.reader.SymbolReader.take.Goals as goal
 
 -- the tuple, by the turn that was read
@@ -15,6 +17,9 @@ tuple_is m t x u y eu ey = ey ∙ ap (λ a. number (lead ((a + (4 - t)) % 4) ++ 
 joined_is : (m a t x u y z : ℕ) → u ≡ turn_of m x → y ≡ number (lead ((u + (4 - t)) % 4) ++ drop 2 (bits m x)) → z ≡ a * 2 ^ m + y
     → z ≡ a * 2 ^ m + number (tuple_of m t x)
 joined_is m a t x u y z eu ey ez = ez ∙ ap (λ n. a * 2 ^ m + n) (tuple_is m t x u y eu ey)
+
+turn_below : (m x u : ℕ) → u ≡ turn_of m x → u < 4
+turn_below m x u e = subst (λ n. n < 4) (sym e) (turn_lt (bits m x))
 
 -- what is heard is taken, since the symbol is below the bound that the code computes
 taken_is : (m k x : ℕ) (e : Incoming) → m ≡ k → k ≤ 6 → x < (1 * 2 ^ m) % 2 ^ 32 → heard k x e ≡ taken k x e
@@ -43,6 +48,14 @@ overflow_cast-result c =
     let byte : z / 2 ^ (n + m - 8) < 256 = shr_below z 8 (n + m - 8) (full_lt n m z c.if-count-lt8.false below) in
     search rules
 
+pub returns-then-symbol-m-clause-within : goal.returns-then-symbol-m-clause-within
+unfolding incoming_of
+returns-then-symbol-m-clause-within c =
+    let r = c.self.inside in (
+      subst (λ (v : Reader). length v.incoming.bits < 8) c.self.view_is (subst (λ n. n < 8) (sym (length_bits r.count r.held)) c.self.invariant.0),
+      subst (λ (v : Reader). v.incoming.turn < 4) c.self.view_is c.self.invariant.2,
+    )
+
 pub returns-then-count-lt8 : goal.returns-then-count-lt8
 unfolding incoming_of
 returns-then-count-lt8 c =
@@ -60,6 +73,7 @@ returns-then-count-lt8 c =
     (record {
       byte = ap (λ (g : Gives ℕ Incoming). g.gives) is;
       reader = ap (λ (g : Gives ℕ Incoming). record { mapping = r.mapping; incoming = g.next }) is;
+      within = (omega (arith, length_bits (r.count + m) z, few), turn_below m x u c.turn_at-turn.ensures);
     })
 
 pub returns : goal.returns
@@ -82,4 +96,5 @@ returns c =
       byte = ap (λ (g : Gives ℕ Incoming). g.gives) is;
       reader = ap (λ (n : ℕ). record { mapping = r.mapping; incoming = record { bits = bits left (z % n); turn = u } }) one
           ∙ ap (λ (g : Gives ℕ Incoming). record { mapping = r.mapping; incoming = g.next }) is;
+      within = (omega (arith, length_bits left (z % ((1 * 2 ^ left) % 2 ^ 32)), c.self.invariant.0, r.mapping.known.1), turn_below m x u c.turn_at-turn.ensures);
     })

@@ -10,7 +10,7 @@ pub overflow_sub-self : goal.overflow_sub-self
 overflow_sub-self c =
     let w = c.self.inside in
     let left = undrawn_of w c.args.self.now c.self.invariant.0 c.self.view_is in
-    omega (arith, c.undrawn_bits.ensures, left, c.if-undrawn_bits-ge-BYTE.false, c.self.invariant.1)
+    omega (arith, c.undrawn_bits.ensures.value, left, c.if-undrawn_bits-ge-BYTE.false, c.self.invariant.1)
 
 pub returns-clause-writer : goal.returns-clause-writer
 unfolding outgoing_of
@@ -19,7 +19,7 @@ returns-clause-writer c =
     let frame = c.args.frame.now in
     let left = undrawn_of w c.args.self.now c.self.invariant.0 c.self.view_is in
     let few : length (drop w.next (octets w.line)) < 8 =
-    omega (arith, c.undrawn_bits.ensures, left, undrawn_length w.line w.next c.self.invariant.0, c.if-undrawn_bits-ge-BYTE.false) in
+    omega (arith, c.undrawn_bits.ensures.value, left, undrawn_length w.line w.next c.self.invariant.0, c.if-undrawn_bits-ge-BYTE.false) in
     let low : 1632 ≤ w.next = omega (arith, undrawn_length w.line w.next c.self.invariant.0, few, c.self.invariant.1) in
     rw (← c.self.view_is)
     (ap (λ (o : Outgoing). record { mapping = w.mapping; outgoing = o })
