@@ -77,7 +77,8 @@ impl<D: DelayLine> Receiver<D> {
         if buffer.len() != 188 {
             return Err(CollectRefusal::Length);
         }
-        match self.waiting.take() {
+        // by reference, since most calls of a caller that polls find nothing
+        match &self.waiting {
             None => Err(CollectRefusal::NothingWaits),
             Some(
                 Outcome::Packet {
@@ -86,10 +87,16 @@ impl<D: DelayLine> Receiver<D> {
                     count,
                 },
             ) => {
-                buffer.copy_from_slice(&bytes);
+                let (frame, count) = (*frame, *count);
+                buffer.copy_from_slice(bytes);
+                self.waiting = None;
                 Ok((frame, count))
             }
-            Some(Outcome::Fault { frame, fault }) => Err(CollectRefusal::Fault { frame, fault }),
+            Some(Outcome::Fault { frame, fault }) => {
+                let (frame, fault) = (*frame, *fault);
+                self.waiting = None;
+                Err(CollectRefusal::Fault { frame, fault })
+            }
         }
     }
 
