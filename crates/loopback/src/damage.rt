@@ -14,12 +14,13 @@ pub enum Damage {
     Bursts,
 }
 
+// The column of the page, as wide as that is: a text to be padded would have to be made on the heap first.
 impl fmt::Display for Damage {
     fn fmt<W: fmt::Write>(&self, f: &mut fmt::Formatter<W>) -> fmt::Result {
         match self {
-            Damage::Clean => write!(f, "none"),
-            Damage::Scattered(rate) => write!(f, "{rate:>2} in 1000"),
-            Damage::Bursts => write!(f, "60 in 4000"),
+            Damage::Clean => write!(f, "{:<14}", "none"),
+            Damage::Scattered(rate) => write!(f, "{rate:>2} in 1000    "),
+            Damage::Bursts => write!(f, "{:<14}", "60 in 4000"),
         }
     }
 }

@@ -18,7 +18,7 @@ pub struct Table<'a, R> {
     pub stream: &'a [u8],
 }
 
-impl<R: Print + AllocGlobal> Table<'_, R> {
+impl<R: Print> Table<'_, R> {
     pub fn print_heading(&self) -> anyhow::Result<()> {
         println!(self.rt;
             "{:<7} {:<24} {:<14} {:>6} {:>9} {:>8} {:>7} {:>7} {:>7} {:>9} {:>5} packets",
@@ -46,8 +46,7 @@ impl<R: Print + AllocGlobal> Table<'_, R> {
     ) -> anyhow::Result<()> {
         for damage in DAMAGES {
             let tally = loop_back(scheme, mapping, damage, self.stream)?;
-            let damage = damage.to_string(self.rt.alloc())?;
-            println!(self.rt; "{mapping:<7} {name:<24} {damage:<14} {tally}")?;
+            println!(self.rt; "{mapping:<7} {name:<24} {damage} {tally}")?;
         }
         Ok(())
     }

@@ -13,7 +13,7 @@ use std::env;
 use std::io::{BufWriter, Read, Stdout, Write};
 use transport::{PACKET, mapping_asked};
 
-// Packets are written in parts of this many bytes.
+// Packets are written in parts of at least this many bytes.
 const PART: usize = 65536;
 
 // A run over one stream: the receiver, where its packets go, and the account so far.
@@ -63,6 +63,9 @@ impl<D: DelayLine> Reception<'_, D> {
                 Ok(false) => {}
                 Err(refusal) => self.refuse(refusal)?,
             }
+            if self.out.buffer().len() >= PART {
+                self.out.flush()?;
+            }
         }
         self.out.flush()?;
         Ok(())
@@ -81,11 +84,16 @@ fn run(rt: &HostRuntime) -> anyhow::Result<()> {
     let mut reception = Reception {
         rt,
         receiver: Receiver::new(mapping, Interleaving.receiving()),
-        out: BufWriter::with_capacity(rt.alloc(), PART, rt.stdout())?,
+        // with room for the packet that completes a part, so that it is written where it is flushed, and nowhere else
+        out: BufWriter::with_capacity(rt.alloc(), PART + 2 * PACKET, rt.stdout())?,
         account: Account::new(),
     };
-    reception.take_all(&symbols)?;
-    eprintln!(rt; "{}", reception.account)?;
+    let received = reception.take_all(&symbols);
+    let Reception { out, account, .. } = reception;
+    // what an error leaves in the buffer is not written
+    let _unwritten = out.into_parts();
+    received?;
+    eprintln!(rt; "{account}")?;
     Ok(())
 }
 

@@ -10,8 +10,11 @@ use std::num::Saturating;
 use std::{env, fmt};
 use transport::{PACKET, mapping_asked};
 
-// Symbols are written in parts of this many.
+// Symbols are written in parts of at least this many, each after a whole packet.
 const PART: usize = 65536;
+
+// No packet gives as many symbols as this, so the buffer is written where it is flushed, and nowhere else.
+const ROOM: usize = 512;
 
 #[derive(Clone, Copy, Debug, PartialEq, Eq, Default)]
 struct Account {
@@ -68,6 +71,9 @@ impl<D: DelayLine> Transmission<'_, D> {
     fn send_all(&mut self, stream: &[u8]) -> anyhow::Result<()> {
         for packet in stream.chunks_exact(PACKET) {
             self.send(packet)?;
+            if self.out.buffer().len() >= PART {
+                self.out.flush()?;
+            }
         }
         self.out.flush()?;
         Ok(())
@@ -86,11 +92,15 @@ fn run(rt: &HostRuntime) -> anyhow::Result<()> {
     let mut transmission = Transmission {
         rt,
         sender: Sender::new(mapping, Interleaving.sending()),
-        out: BufWriter::with_capacity(rt.alloc(), PART, rt.stdout())?,
+        out: BufWriter::with_capacity(rt.alloc(), PART + ROOM, rt.stdout())?,
         account: Account::default(),
     };
-    transmission.send_all(&stream)?;
-    eprintln!(rt; "{}", transmission.account)?;
+    let sent = transmission.send_all(&stream);
+    let Transmission { out, account, .. } = transmission;
+    // what an error leaves in the buffer is not written
+    let _unwritten = out.into_parts();
+    sent?;
+    eprintln!(rt; "{account}")?;
     let left = stream.len() % PACKET;
     if left > 0 {
         eprintln!(rt; "{left} bytes at the end are no whole packet and were not sent")?;
