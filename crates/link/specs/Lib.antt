@@ -1,3 +1,4 @@
 pub mod Placed
+pub mod Within
 pub mod Models
 pub mod Both

@@ -1,5 +1,6 @@
 // The delay line's answers, cut into words.
 ghost use Rattle.std.specs.Prelude.{◌≡◌, ◌*◌, []};
+ghost use Rattle.link.specs.Within.{WithinWord};
 ghost use Rattle.link_theory.specs.Receiver.{cut};
 
 use std::marker::Model;
@@ -38,7 +39,8 @@ impl WordCutter {
 
     // Takes one answer more, and gives the word that it completes.
     pub(crate) fn push(&mut self, byte: u8) -> Option<[u8; 204]>
-        ensures { record { gives = result; next = self.new } ≡ cut byte self.old }
+        ensures cut { record { gives = result; next = self.new } ≡ cut byte self.old }
+        ensures within { WithinWord self.new }
     {
         if self.skip > 0 {
             self.skip -= 1;

@@ -1,5 +1,5 @@
 // Words to outcomes: each is read, and its packet restored at its position in the group of eight.
-ghost use Rattle.std.specs.Prelude.{◌≡◌, ◌%◌, ◌<◌, [], ◌∷◌, take, None, IfOk};
+ghost use Rattle.std.specs.Prelude.{◌≡◌, ◌%◌, ◌<◌, [], ◌∷◌, take, None, IfOk, IfSome};
 ghost use Rattle.framing.specs.Group.{expected_after};
 ghost use Rattle.framing.specs.Mask.{restored};
 ghost use Rattle.framing.specs.Mending.{mended};
@@ -63,6 +63,7 @@ impl PacketReader {
         ensures within { IfOk result (λ p. p.0 < 8) }
         ensures buffer { word.new ≡ (mended word.old).buffer }
         ensures reader { self.new ≡ record { frame = self.old.frame; expected = expected_after self.old.expected (event_of (mended word.old)) } }
+        ensures known { IfSome self.new.expected (λ position. position < 8) }
     {
         let answer = mend(word);
         let position = self.group.meet(event_of(answer, word[0]));
@@ -75,6 +76,7 @@ impl PacketReader {
     pub(crate) fn read(&mut self, mut word: [u8; 204]) -> Outcome
         ensures outcome { result ≡ outcome_of self.old (mended word) }
         ensures reader { self.new ≡ reader_after self.old (mended word) }
+        ensures known { IfSome self.new.expected (λ position. position < 8) }
     {
         let frame = self.frame;
         self.frame = frame.wrapping_add(1);

@@ -16,4 +16,5 @@ returns-in-Ok c =
           (c.packet_of.ensures ∙ ap (λ (z : List ℕ). restored (g % 8) (take 188 z)) h.buffer) s.group w.answer h.placed
           ∙ ap (λ (r : Reader). outcome_of r w) c.self.view_is;
       reader = search rules;
+      known = search rules;
     }
